@@ -71,7 +71,7 @@ bound-rises :
     → Flows (c .labelled .order) (c .listener) other
     → {l : Leakage} {r : Routine} {n : Node} {w b k : ℕ}
     → Held l r n w b k
-    → Flows (c .labelled .order) (bound c n b) (bound (heard-by other c) n b)
+    → Flows (c .labelled .order) (bound c n b) (bound (heard-by c other) n b)
 bound-rises c other laws up if-condition = up
 bound-rises c other laws up while-condition = up
 bound-rises c other laws up (left-operand e) = up
@@ -82,7 +82,7 @@ bound-rises c other laws up stored-index = flows-refl (c .labelled .order) laws 
 bound-rises c other laws up stored-value = flows-refl (c .labelled .order) laws _
 
 pub clears-upwards : {L : Type 0} → Clears-upwards L
-clears-upwards c other laws up T typed =
+clears-upwards c laws other up T typed =
     record {
       start = typed .start;
       keeps = typed .keeps;
