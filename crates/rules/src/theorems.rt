@@ -1,0 +1,84 @@
+//! The theorems, each on the contract of a small function that does nothing: its proof is the theorem's. `L` is the type of levels.
+
+ghost use Rattle.rules.specs.Order.{Order, Lawful};
+ghost use Rattle.rules.specs.Leakage.{Leakage, Honest};
+ghost use Rattle.rules.specs.Standing.{two-levels, owner-sets, pairs, program-counter, baseline, cache-line, time-variable};
+ghost use Rattle.rules.specs.Theorems.{Partial-order, Least-upper-bound, Reach-decided, Reach-exists, Clears-exactly, Least-table, Leaks-named, Open-told, Clears-upwards, Two-runs, Advances};
+ghost use Rattle.rules.specs.Operators.{Numbered};
+ghost use Rattle.rules.specs.Listings.{Listings as Listings-hold};
+
+/// In every lawful order flowing is a partial order, and the join is the least upper bound.
+pub fn flows_in_order<L>()
+    ensures partial { λ _. ⌜ ((o : Order L) → Lawful o → Partial-order o) ⌝ }
+    ensures join { λ _. ⌜ ((o : Order L) → Lawful o → Least-upper-bound o) ⌝ }
+{}
+
+/// The orders that stand have the laws.
+pub fn orders_lawful<First, Second>()
+    ensures two { λ _. ⌜ Lawful two-levels ⌝ }
+    ensures owners { λ _. ⌜ Lawful owner-sets ⌝ }
+    ensures paired { λ _. ⌜ ((o : Order First) (q : Order Second) → Lawful o → Lawful q → Lawful (pairs o q)) ⌝ }
+{}
+
+/// The leakage models that stand show the promise.
+pub fn models_honest()
+    ensures counter { λ _. ⌜ Honest program-counter ⌝ }
+    ensures base { λ _. ⌜ Honest baseline ⌝ }
+    ensures lines { λ _. ⌜ Honest (cache-line 16) × Honest (cache-line 8) ⌝ }
+    ensures layered { λ _. ⌜ ((l : Leakage) → Honest l → Honest (time-variable l)) ⌝ }
+{}
+
+/// Bits that can be derived and are closed under the rules of reach are the reach relation.
+pub fn reach_decided()
+    ensures { λ _. ⌜ Reach-decided ⌝ }
+{}
+
+/// Every well-formed routine has bits that are its reach relation.
+pub fn reach_exists()
+    ensures { λ _. ⌜ Reach-exists ⌝ }
+{}
+
+/// A typing table meets the rules exactly when no start name that reaches a held operand fails to flow to its bound.
+pub fn clears_exactly<L>()
+    ensures { λ _. ⌜ Clears-exactly L ⌝ }
+{}
+
+/// The least table meets the rules if any does, lies below every other, and tells what is open.
+pub fn least_table<L>()
+    ensures { λ _. ⌜ Least-table L ⌝ }
+{}
+
+/// There is a leak exactly when no table meets the rules, and only one.
+pub fn leaks_named<L>()
+    ensures { λ _. ⌜ Leaks-named L ⌝ }
+{}
+
+/// Some table tells what is open.
+pub fn open_told<L>()
+    ensures { λ _. ⌜ Open-told L ⌝ }
+{}
+
+/// What is cleared for a listener is cleared for every listener above.
+pub fn clears_upwards<L>()
+    ensures { λ _. ⌜ Clears-upwards L ⌝ }
+{}
+
+/// Two runs of a cleared routine look the same to the listener.
+pub fn two_runs<L>()
+    ensures { λ _. ⌜ Two-runs L ⌝ }
+{}
+
+/// The laws of advance, over whole runs.
+pub fn advances()
+    ensures { λ _. ⌜ Advances ⌝ }
+{}
+
+/// The numbers of the operators, and the operators of the numbers, are each other's inverse.
+pub fn operators_numbered()
+    ensures { λ _. ⌜ Numbered ⌝ }
+{}
+
+/// What holds of the small listings to hand.
+pub fn listings()
+    ensures { λ _. ⌜ Listings-hold ⌝ }
+{}
