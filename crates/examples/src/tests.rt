@@ -1,7 +1,7 @@
 //! Loading and writing, on examples.
 
-use listing::load::load;
-use listing::load::write;
+use listing::load;
+use listing::write;
 use std::alloc::Global;
 use std::fmt::Write;
 use std::test::*;
