@@ -1,15 +1,14 @@
 -- The theorems, proved.
-use mathlib.Core.Path.{_≡_, refl, sym, ap, _∙_}
-use mathlib.Core.Bool.{Bool, true, false}
+use mathlib.Core.Path.{refl}
 use mathlib.Core.Logic.{_⊎_, inl, inr}
-use Prim.Native.Nat.{ℕ, _+_, _<_, _≤_}
+use Prim.Native.Nat.{ℕ}
 use native.Mathlib.Omega.{arith}
 use Rattle.rules.specs.declared.Node.{Node}
 use Rattle.rules.specs.Order.{Order, Flows, Lawful}
 use Rattle.rules.specs.Leakage.{Leakage}
-use Rattle.rules.specs.Routine.{Routine, Well-formed, node}
+use Rattle.rules.specs.Routine.{Routine}
 use Rattle.rules.specs.Reach.{Reaches, Bits, Exact}
-use Rattle.rules.specs.Clearance.{Setting, Typed, Cleared, Tells-open, Held, bound, Some-leak, No-violation, least-table}
+use Rattle.rules.specs.Clearance.{Setting, Cleared, Held, bound, Some-leak, No-violation, least-table}
 use Rattle.rules.specs.Clearance.Held.{if-condition, while-condition, left-operand, right-operand, read-index, write-index, stored-index, stored-value}
 use Rattle.rules.specs.Run.{started}
 use Rattle.rules.specs.Theorems.{Partial-order, Least-upper-bound, Clears-exactly, Least-table, Leaks-named, Open-told, heard-by, Clears-upwards, Two-runs}
