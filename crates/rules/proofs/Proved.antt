@@ -11,7 +11,7 @@ use Rattle.rules.specs.Reach.{Reaches, Bits, Exact}
 use Rattle.rules.specs.Clearance.{Setting, Cleared, Held, bound, Some-leak, No-violation, least-table}
 use Rattle.rules.specs.Clearance.Held.{if-condition, while-condition, left-operand, right-operand, read-index, write-index, stored-index, stored-value}
 use Rattle.rules.specs.Run.{started}
-use Rattle.rules.specs.Theorems.{Partial-order, Least-upper-bound, Clears-exactly, Least-table, Leaks-named, Open-told, heard-by, Clears-upwards, Two-runs}
+use Rattle.rules.specs.Theorems.{Partial-order, Least-upper-bound, Clears-exactly, Least-of-tables, Leaks-named, Open-told, heard-by, Clears-upwards, Two-runs}
 use Rattle.rules.proofs.Orders.{flows-trans, flows-refl, flows-both, least-flows, flows-left, flows-right, join-flows}
 use Rattle.rules.proofs.Tables.{table-clears, least-typed, least-is-least, least-tells-open}
 use Rattle.rules.proofs.Leaks.{leak-or-none, one-lowest}
@@ -33,8 +33,8 @@ clears-exactly c laws wf =
       no-violation-if-table = λ t. table-clears c laws wf (t .0) (t .1);
     }
 
-pub least-table-least : {L : Type 0} → Least-table L
-least-table-least c laws wf bit exact =
+pub least-of-tables : {L : Type 0} → Least-of-tables L
+least-of-tables c laws wf bit exact =
     record {
       meets-rules = λ t. least-typed c laws wf bit exact (table-clears c laws wf (t .0) (t .1));
       below-others = least-is-least c laws wf bit exact;

@@ -1,9 +1,10 @@
 //! The theorems, each on the contract of a small function that does nothing: its proof is the theorem's. `L` is the type of levels.
 
+ghost use Prim.Native.Nat.{ℕ};
 ghost use Rattle.rules.specs.Order.{Order, Lawful};
 ghost use Rattle.rules.specs.Leakage.{Leakage, Honest};
 ghost use Rattle.rules.specs.Standing.{two-levels, owner-sets, pairs, program-counter, baseline, cache-line, time-variable};
-ghost use Rattle.rules.specs.Theorems.{Partial-order, Least-upper-bound, Reach-decided, Reach-exists, Clears-exactly, Least-table, Leaks-named, Open-told, Clears-upwards, Two-runs, Advances};
+ghost use Rattle.rules.specs.Theorems.{Partial-order, Least-upper-bound, Reach-decided, Reach-exists, Clears-exactly, Least-of-tables, Leaks-named, Open-told, Clears-upwards, Two-runs, Advances};
 ghost use Rattle.rules.specs.Operators.{Numbered};
 ghost use Rattle.rules.specs.Listings.{Listings as Listings-hold};
 
@@ -24,7 +25,7 @@ pub fn orders_lawful<First, Second>()
 pub fn models_honest()
     ensures counter { λ _. ⌜ Honest program-counter ⌝ }
     ensures base { λ _. ⌜ Honest baseline ⌝ }
-    ensures lines { λ _. ⌜ Honest (cache-line 16) × Honest (cache-line 8) ⌝ }
+    ensures lines { λ _. ⌜ ((cells : ℕ) → Honest (cache-line cells)) ⌝ }
     ensures layered { λ _. ⌜ ((l : Leakage) → Honest l → Honest (time-variable l)) ⌝ }
 {}
 
@@ -45,7 +46,7 @@ pub fn clears_exactly<L>()
 
 /// The least table meets the rules if any does, lies below every other, and tells what is open.
 pub fn least_table<L>()
-    ensures { λ _. ⌜ Least-table L ⌝ }
+    ensures { λ _. ⌜ Least-of-tables L ⌝ }
 {}
 
 /// There is a leak exactly when no table meets the rules, and only one.
