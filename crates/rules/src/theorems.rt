@@ -4,7 +4,7 @@ ghost use Prim.Native.Nat.{ℕ};
 ghost use Rattle.rules.specs.Order.{Order, Lawful};
 ghost use Rattle.rules.specs.Leakage.{Leakage, Honest};
 ghost use Rattle.rules.specs.Standing.{two-levels, owner-sets, pairs, program-counter, baseline, cache-line, time-variable};
-ghost use Rattle.rules.specs.Theorems.{Partial-order, Least-upper-bound, Reach-decided, Reach-exists, Clears-exactly, Least-of-tables, Leaks-named, Open-told, Clears-upwards, Two-runs, Advances};
+ghost use Rattle.rules.specs.Theorems.{Partial-order, Least-upper-bound, Reach-decided, Reach-exists, Clears-exactly, Least-of-tables, Leaks-named, Open-told, Clears-upwards, Watches-no-more, Clears-under-less, Two-runs, Advances};
 ghost use Rattle.rules.specs.Operators.{Numbered};
 ghost use Rattle.rules.specs.Listings.{Listings as Listings-hold};
 
@@ -62,6 +62,19 @@ pub fn open_told<L>()
 /// What is cleared for a listener is cleared for every listener above.
 pub fn clears_upwards<L>()
     ensures { λ _. ⌜ Clears-upwards L ⌝ }
+{}
+
+/// What is cleared under a model is cleared under every model that watches no more.
+pub fn clears_under_less<L>()
+    ensures { λ _. ⌜ Clears-under-less L ⌝ }
+{}
+
+/// The program counter watches no more than any model, cache lines no more than the baseline, and any model no more than itself with time-variable
+/// over it.
+pub fn models_compared()
+    ensures counter { λ _. ⌜ ((l : Leakage) → Watches-no-more program-counter l) ⌝ }
+    ensures lines { λ _. ⌜ ((cells : ℕ) → Watches-no-more (cache-line cells) baseline) ⌝ }
+    ensures layered { λ _. ⌜ ((l : Leakage) → Watches-no-more l (time-variable l)) ⌝ }
 {}
 
 /// Two runs of a cleared routine look the same to the listener.
