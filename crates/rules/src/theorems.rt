@@ -29,7 +29,7 @@ pub fn models_honest()
     ensures layered { λ _. ⌜ ((l : Leakage) → Honest l → Honest (time-variable l)) ⌝ }
 {}
 
-/// Bits that can be derived and are closed under the rules of reach are the reach relation.
+/// Bits are the reach relation exactly when all can be derived by the rules of reach and they are closed under these rules.
 pub fn reach_decided()
     ensures { λ _. ⌜ Reach-decided ⌝ }
 {}
@@ -69,8 +69,7 @@ pub fn clears_under_less<L>()
     ensures { λ _. ⌜ Clears-under-less L ⌝ }
 {}
 
-/// The program counter watches no more than any model, cache lines no more than the baseline, and any model no more than itself with time-variable
-/// over it.
+/// The program counter watches no more than any model, cache lines no more than the baseline, and any model no more than time-variable over it.
 pub fn models_compared()
     ensures counter { λ _. ⌜ ((l : Leakage) → Watches-no-more program-counter l) ⌝ }
     ensures lines { λ _. ⌜ ((cells : ℕ) → Watches-no-more (cache-line cells) baseline) ⌝ }
@@ -82,7 +81,7 @@ pub fn two_runs<L>()
     ensures { λ _. ⌜ Two-runs L ⌝ }
 {}
 
-/// The laws of advance, over whole runs.
+/// The laws of advance and of its steps, over whole runs.
 pub fn advances()
     ensures { λ _. ⌜ Advances ⌝ }
 {}
