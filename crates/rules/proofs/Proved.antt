@@ -1,18 +1,17 @@
 -- The theorems, proved.
-use mathlib.Core.Path.{_≡_, refl, sym, ap, _∙_}
-use mathlib.Core.Bool.{Bool, true, false}
+use mathlib.Core.Path.{refl}
 use mathlib.Core.Logic.{_⊎_, inl, inr}
-use Prim.Native.Nat.{ℕ, _+_, _<_, _≤_}
+use Prim.Native.Nat.{ℕ}
 use native.Mathlib.Omega.{arith}
 use Rattle.rules.specs.declared.Node.{Node}
 use Rattle.rules.specs.Order.{Order, Flows, Lawful}
 use Rattle.rules.specs.Leakage.{Leakage}
-use Rattle.rules.specs.Routine.{Routine, Well-formed, node}
+use Rattle.rules.specs.Routine.{Routine}
 use Rattle.rules.specs.Reach.{Reaches, Bits, Exact}
-use Rattle.rules.specs.Clearance.{Setting, Typed, Cleared, Tells-open, Held, bound, Some-leak, No-violation, least-table}
+use Rattle.rules.specs.Clearance.{Setting, Cleared, Held, bound, Some-leak, No-violation, least-table}
 use Rattle.rules.specs.Clearance.Held.{if-condition, while-condition, left-operand, right-operand, read-index, write-index, stored-index, stored-value}
 use Rattle.rules.specs.Run.{started}
-use Rattle.rules.specs.Theorems.{Partial-order, Least-upper-bound, Clears-exactly, Least-table, Leaks-named, Open-told, heard-by, Clears-upwards, Two-runs}
+use Rattle.rules.specs.Theorems.{Partial-order, Least-upper-bound, Clears-exactly, Least-of-tables, Leaks-named, Open-told, heard-by, Clears-upwards, Watches-no-more, under, Clears-under-less, Two-runs}
 use Rattle.rules.proofs.Orders.{flows-trans, flows-refl, flows-both, least-flows, flows-left, flows-right, join-flows}
 use Rattle.rules.proofs.Tables.{table-clears, least-typed, least-is-least, least-tells-open}
 use Rattle.rules.proofs.Leaks.{leak-or-none, one-lowest}
@@ -34,8 +33,8 @@ clears-exactly c laws wf =
       no-violation-if-table = λ t. table-clears c laws wf (t .0) (t .1);
     }
 
-pub least-table-least : {L : Type 0} → Least-table L
-least-table-least c laws wf bit exact =
+pub least-of-tables : {L : Type 0} → Least-of-tables L
+least-of-tables c laws wf bit exact =
     record {
       meets-rules = λ t. least-typed c laws wf bit exact (table-clears c laws wf (t .0) (t .1));
       below-others = least-is-least c laws wf bit exact;
@@ -88,6 +87,32 @@ clears-upwards c laws other up T typed =
       keeps = typed .keeps;
       takes = typed .takes;
       bounded = λ p w b k h held. flows-trans (c .labelled .order) laws (T p k) _ _ (typed .bounded p w b k h held) (bound-rises c other laws up held);
+    }
+
+-- An operand that a model holds to a bound is held to the same bound by every model that watches no less.
+held-more :
+    {L : Type 0} (c : Setting L) (other : Leakage)
+    → Watches-no-more other (c .model)
+    → {r : Routine} {n : Node} {w b k : ℕ} (x : L)
+    → (Held (c .model) r n w b k → Flows (c .labelled .order) x (bound c n b))
+    → Held other r n w b k
+    → Flows (c .labelled .order) x (bound (under c other) n b)
+held-more c other less x f if-condition = f if-condition
+held-more c other less x f while-condition = f while-condition
+held-more c other less x f (left-operand e) = f (left-operand (less .operands _ _ e))
+held-more c other less x f (right-operand e) = f (right-operand (less .operands _ _ e))
+held-more c other less x f (read-index e) = f (read-index (less .indexes _ _ e))
+held-more c other less x f (write-index e) = f (write-index (less .indexes _ _ e))
+held-more c other less x f stored-index = f stored-index
+held-more c other less x f stored-value = f stored-value
+
+pub clears-under-less : {L : Type 0} → Clears-under-less L
+clears-under-less c other less T typed =
+    record {
+      start = typed .start;
+      keeps = typed .keeps;
+      takes = typed .takes;
+      bounded = λ p w b k h held. held-more c other less (T p k) (λ x. typed .bounded p w b k h x) held;
     }
 
 pub two-runs : {L : Type 0} → Two-runs L
