@@ -1,5 +1,4 @@
 -- The sizes of a cache line.
--- Assumes nothing.
 use Prim.Native.Nat.{ℕ}
 use Rattle.leakage.specs.declared.cache_line.CacheLine.{CacheLine}
 use Rattle.leakage.specs.declared.cache_line.CacheLine.the-variants.{Sixteen, Eight}

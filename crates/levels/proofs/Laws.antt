@@ -1,5 +1,4 @@
 -- Pairs keep the laws that both halves keep.
--- Assumes nothing.
 use mathlib.Core.Path.{_≡_, ap}
 use Rattle.std.proofs.shelf.Tests.{and-parts, and-from}
 use Rattle.rules.specs.Order.{Order, Lawful}

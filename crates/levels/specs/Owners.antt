@@ -1,5 +1,4 @@
 -- Sets of owners, a bit for each, joined by union.
--- Assumes nothing.
 use Prim.Native.Nat.{ℕ, _<_, _^_}
 use lib.Bits.{bitOr, or-lt}
 use lib.Dec.{eqb, lit<}

@@ -1,5 +1,4 @@
 -- Pairs over any two orders, half by half.
--- Assumes nothing.
 use mathlib.Core.Bool.{_&&_}
 use Rattle.rules.specs.Order.{Order}
 use Rattle.levels.specs.declared.pair.Pair.{Pair}

@@ -1,5 +1,4 @@
 -- Public below secret.
--- Assumes nothing.
 use mathlib.Core.Bool.{Bool, true, false}
 use Rattle.rules.specs.Order.{Order}
 use Rattle.levels.specs.declared.secrecy.Secrecy.{Secrecy}

@@ -1,5 +1,4 @@
 -- Tables of start levels, and the names whose levels flow to a bound.
--- Assumes nothing.
 use mathlib.Core.Path.{_≡_}
 use mathlib.Core.Bool.{true}
 use mathlib.Core.List.{List}

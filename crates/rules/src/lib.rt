@@ -1,11 +1,10 @@
-ghost use Rattle.rules.specs.Listings.{Listings as Listings-hold};
-ghost use Rattle.rules.specs.Standing.{two-levels, owner-sets, pairs, program-counter, baseline, cache-line, time-variable};
-ghost use Rattle.rules.specs.Order.{Order, Lawful};
-ghost use Rattle.rules.specs.Leakage.{Leakage, Honest};
-ghost use Rattle.rules.specs.Theorems.{Two-runs, Clears-exactly, Reach-decided, Leaks-named, Advances, Reach-exists, Table-or-leak};
+//! The subject's data: operators, nodes and the regions of arrays. What they mean stands in specs/, and what holds of that meaning in
+//! `theorems`.
 
-// The subject's data: operators, nodes and array regions. The rules and the theorems about them stand in specs/ and proofs/.
+pub mod operators;
+pub mod theorems;
 
+/// What an operator node does to two values.
 #[derive(Drop, Clone, Copy)]
 pub enum Operator {
     Sum,
@@ -22,140 +21,79 @@ pub enum Operator {
     Equal,
 }
 
+/// The left or the right operand of an operator.
 #[derive(Drop, Clone, Copy)]
 pub enum Side {
     Left,
     Right,
 }
 
+/// One node of a routine. Scalars, arrays and other nodes are named by number; an `index` and a `value` to be written are scalars.
 #[derive(Drop, Clone, Copy)]
 pub enum Node {
+    /// `target` becomes `value`, which is a number and no scalar.
     Constant {
         target: u32,
         value: u32,
     },
+    /// `target` becomes `source`.
     Move {
         target: u32,
         source: u32,
     },
+    /// `target` becomes what `operator` gives on `left` and `right`.
     Operate {
         target: u32,
         operator: Operator,
         left: u32,
         right: u32,
     },
+    /// `target` becomes `then` if `condition` is not 0, and else `otherwise`.
     Select {
         target: u32,
         condition: u32,
         then: u32,
         otherwise: u32,
     },
+    /// `target` becomes the element of `array` at `index`.
     Read {
         target: u32,
         array: u32,
         index: u32,
     },
+    /// The element of `array` at `index` becomes `value`.
     Write {
         array: u32,
         index: u32,
         value: u32,
     },
+    /// Goes on if `condition` is not 0, and else past node `otherwise`, its else.
     If {
         condition: u32,
         otherwise: u32,
     },
+    /// Ends the first branch of an if, and goes to node `end`, the end of the if.
     Else {
         end: u32,
     },
+    /// Ends the if at node `head`.
     EndIf {
         head: u32,
     },
+    /// Goes on if `condition` is not 0, and else past node `end`, the end of the while.
     While {
         condition: u32,
         end: u32,
     },
+    /// Ends the body of the while at node `head`, and goes back to it.
     EndWhile {
         head: u32,
     },
 }
 
+/// The cells of an array: the first, and how many there are.
 #[derive(Drop, Clone, Copy)]
 pub struct Region {
     pub start: u32,
     pub length: u32,
-}
-
-// If clearance holds, two runs that start alike in all that is open, and perform alike calls, answer alike.
-pub fn two_runs<L>() -> u8
-    ensures { λ _. ⌜ Two-runs L ⌝ }
-{
-    0
-}
-
-// Clearance holds exactly when no start name that reaches a demanded operand fails to flow to its bound.
-pub fn clears_exactly<L>() -> u8
-    ensures { λ _. ⌜ Clears-exactly L ⌝ }
-{
-    0
-}
-
-// A table of bits that is derivable and closed under the rules of reach is the reach relation.
-pub fn reach_decided() -> u8
-    ensures { λ _. ⌜ Reach-decided ⌝ }
-{
-    0
-}
-
-// There is one leak, or none and a table meets the rules.
-pub fn leaks_named<L>() -> u8
-    ensures { λ _. ⌜ Leaks-named L ⌝ }
-{
-    0
-}
-
-// What advance does, as laws over whole runs.
-pub fn advances() -> u8
-    ensures { λ _. ⌜ Advances ⌝ }
-{
-    0
-}
-
-// What holds of the listings to hand.
-pub fn listings() -> u8
-    ensures { λ _. ⌜ Listings-hold ⌝ }
-{
-    0
-}
-
-// The orders that stand have the laws.
-pub fn orders_lawful<First, Second>() -> u8
-    ensures two { λ _. ⌜ Lawful two-levels ⌝ }
-    ensures owners { λ _. ⌜ Lawful owner-sets ⌝ }
-    ensures paired { λ _. ⌜ ((o : Order First) (q : Order Second) → Lawful o → Lawful q → Lawful (pairs o q)) ⌝ }
-{
-    0
-}
-
-// The models that stand show the promise.
-pub fn models_honest() -> u8
-    ensures counter { λ _. ⌜ Honest program-counter ⌝ }
-    ensures base { λ _. ⌜ Honest baseline ⌝ }
-    ensures lines { λ _. ⌜ Honest (cache-line 16) × Honest (cache-line 8) ⌝ }
-    ensures layered { λ _. ⌜ ((l : Leakage) → Honest l → Honest (time-variable l)) ⌝ }
-{
-    0
-}
-
-// Every well-formed routine has a table of bits that is its reach relation.
-pub fn reach_exists() -> u8
-    ensures { λ _. ⌜ Reach-exists ⌝ }
-{
-    0
-}
-
-// Some typing table meets the rules, or there is a leak, and never both.
-pub fn table_or_leak<L>() -> u8
-    ensures { λ _. ⌜ Table-or-leak L ⌝ }
-{
-    0
 }
