@@ -6,5 +6,5 @@ use Rattle.reach.proofs.reading.counts_of.Needs as need
 
 pub returns : need.returns
 returns c =
-    let e = ap (λ (l : Listing). l .counts) (c .listing .ensures) in
+    let e = ap (λ (l : Listing). l .counts) (c .listing .ensures .is) in
     record { is = e; within = subst Within-limits (sym e) (limits-of (c .args .routine .now)) }
