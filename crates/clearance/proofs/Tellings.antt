@@ -27,12 +27,14 @@ use Rattle.rules.specs.Reach.{Reaches, Bits, Exact}
 use Rattle.rules.specs.Clearance.{Setting, Cleared, No-violation, Open, joined, least-table}
 use Rattle.rules.proofs.Reaching.{reaching-name}
 use Rattle.rules.proofs.Tables.{least-typed}
+use Rattle.clearance.specs.declared.leak.LeakSite.{LeakSite}
 use Rattle.clearance.specs.declared.outcome.Outcome.{Outcome}
 use Rattle.clearance.specs.declared.outcome.Outcome.the-variants as outcome
 use Rattle.clearance.specs.declared.record.Examination.{Examination}
-use Rattle.clearance.specs.Outcomes.{is-granted}
+use Rattle.clearance.specs.Outcomes.{is-granted, by-leak}
 use Rattle.clearance.specs.Opens.{opens-of}
 use Rattle.clearance.specs.Scenes.{Scene, scene, setting, Fitting}
+use Rattle.clearance.specs.Stops.{Leak-answer}
 use Rattle.clearance.specs.Examinations.{Right-opens, Right-outcome, Examined}
 
 -- The bits of a reach table.
@@ -66,9 +68,14 @@ module _
   abbrev r : Routine
   r = routine-of (x .listing)
 
-  pub granted : Lawful o → (t : ReachTable) → Tells-reach r t → No-violation C → Cleared C
+  granted : Lawful o → (t : ReachTable) → Tells-reach r t → No-violation C → Cleared C
   granted laws t T clear =
       (least-table (C .labelled) (reach-bits t), least-typed C laws (formed-of x) (reach-bits t) (exact-bits r t T) clear)
+
+  pub right-outcome :
+      Lawful o → (t : ReachTable) → Tells-reach r t → (leak : Option LeakSite) → Leak-answer C leak → Right-outcome C (by-leak leak)
+  right-outcome laws t T None clear = granted laws t T clear
+  right-outcome laws t T (Some s) leak = leak
 
   in-levels : {m p k : ℕ} → Reaches r m p k → (m < 32) × (m < length levels)
   in-levels h =

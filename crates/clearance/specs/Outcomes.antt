@@ -4,6 +4,7 @@ use Rattle.std.specs.declared.option.Option.{Option}
 use Rattle.std.specs.declared.option.Option.the-variants.{Some, None}
 use Rattle.listing.specs.declared.faults.Refusal.{Refusal}
 use Rattle.listing.specs.Faults.{refused}
+use Rattle.clearance.specs.declared.leak.LeakSite.{LeakSite}
 use Rattle.clearance.specs.declared.outcome.Outcome.{Outcome}
 use Rattle.clearance.specs.declared.outcome.Outcome.the-variants as outcome
 use Rattle.clearance.specs.declared.outcome.ClearFault.{ClearFault}
@@ -13,6 +14,11 @@ abbrev pub is-granted : Outcome → Bool
 is-granted outcome.Granted = true
 is-granted outcome.TableLength = false
 is-granted (outcome.Leak s) = false
+
+-- The outcome of a search: the leak that it found, or granted.
+abbrev pub by-leak : Option LeakSite → Outcome
+by-leak (Some s) = outcome.Leak s
+by-leak None = outcome.Granted
 
 -- The fault that an outcome is.
 abbrev pub fault-of : Outcome → Option ClearFault

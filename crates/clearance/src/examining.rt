@@ -4,6 +4,7 @@ ghost use mathlib.Core.Path.{_≡_};
 ghost use Rattle.clearance.specs.Scenes.{scene};
 ghost use Rattle.clearance.specs.Examinations.{Examined};
 use crate::outcome::Outcome;
+use crate::outcome::outcome_of;
 use crate::record::Examination;
 use crate::search::first_leak;
 use leakage::LeakageModel;
@@ -37,14 +38,11 @@ pub fn examine<L: Level, M: LeakageModel>(
     let table = reach(&routine);
     let heard = flowing(levels, listener);
     let opens = open_names(&routine, &table, heard);
-    let outcome = match first_leak(&routine, model, levels, listener, &table, heard) {
-        Some(site) => Outcome::Leak(site),
-        None => Outcome::Granted,
-    };
+    let leak = first_leak(&routine, model, levels, listener, &table, heard);
     Examination {
         routine,
         model,
         opens,
-        outcome,
+        outcome: outcome_of(leak),
     }
 }

@@ -1,7 +1,7 @@
 //! What an examination comes to, and why a routine is not cleared.
 
 ghost use mathlib.Core.Path.{_≡_};
-ghost use Rattle.clearance.specs.Outcomes.{refusal-of};
+ghost use Rattle.clearance.specs.Outcomes.{by-leak, refusal-of};
 use crate::leak::LeakSite;
 use listing::Refusal;
 
@@ -14,6 +14,16 @@ pub enum Outcome {
     TableLength,
     /// The leak that is named.
     Leak(LeakSite),
+}
+
+// Granted, if no leak was found.
+pub(crate) fn outcome_of(leak: Option<LeakSite>) -> Outcome
+    ensures { λ r. ⌜ r ≡ by-leak leak ⌝ }
+{
+    match leak {
+        Some(site) => Outcome::Leak(site),
+        None => Outcome::Granted,
+    }
 }
 
 /// Why there is no clearance.

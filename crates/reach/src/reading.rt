@@ -14,6 +14,7 @@ use rules::Region;
 pub fn counts_of(routine: &Routine) -> Counts
     ensures is { λ r. ⌜ r ≡ now (routine .entry) .listing .counts ⌝ }
     ensures within { λ r. ⌜ Within-limits r ⌝ }
+    ensures ends { λ r. ⌜ r .nodes ≡ end (routine-of (now (routine .entry) .listing)) ⌝ }
 {
     routine.listing().counts
 }

@@ -3,9 +3,8 @@ use Prim.Native.Nat.{_+_}
 use Rattle.listing.specs.declared.parts.Counts.{Counts}
 use Rattle.clearance.specs.Scenes.{scene, setting, Fitting}
 use Rattle.clearance.specs.Examinations.{Right-outcome}
-use Rattle.clearance.proofs.Tellings.{granted, right-opens}
+use Rattle.clearance.proofs.Tellings.{right-outcome, right-opens}
 use Rattle.clearance.proofs.examining.examine.Needs as need
-use Rattle.clearance.proofs.examining.examine.Needs.{in-Some, in-None}
 
 pub returns : need.returns
 returns g c =
@@ -22,12 +21,9 @@ returns g c =
             wrong-length = λ h. absurd (h fit);
             right-outcome =
                 λ _.
-                elim (c .match-first-leak .came) [
-                  | in-Some w ↦ subst (Right-outcome (setting x)) (sym (w .outcome-is)) (w .in-Some .ensures tt)
-                  | in-None w ↦
-                      subst (Right-outcome (setting x)) (sym (w .outcome-is))
-                      (granted o l r levels (c .args .listener) fit (g .L·Level·met .lawful) (c .reach-table .result) (c .reach-table .ensures) (w .in-None .ensures tt))
-                ];
+                subst (Right-outcome (setting x)) (sym (c .outcome-of .ensures))
+                (right-outcome o l r levels (c .args .listener) fit (g .L·Level·met .lawful) (c .reach-table .result) (c .reach-table .ensures)
+                (c .first-leak-leak .result) (c .first-leak-leak .ensures));
             right-opens =
                 λ _.
                 right-opens o l r levels (c .args .listener) fit (c .reach-table .result) (c .reach-table .ensures) (c .flowing-heard .result)

@@ -1,9 +1,8 @@
-use mathlib.Core.Path.{_≡_, sym, ap, subst}
+use mathlib.Core.Path.{_≡_, ap, subst}
 use Prim.Native.Nat.{_<_, _≤_}
 use native.Mathlib.Omega.{arith}
 use Rattle.listing.specs.declared.parts.Counts.{Counts}
 use Rattle.listing.specs.Forms.{routine-of}
-use Rattle.reach.proofs.Loaded.{end-of}
 use Rattle.rules.specs.Routine.{node, end}
 use Rattle.clearance.specs.Scenes.{scene, setting}
 use Rattle.clearance.specs.Stops.{Node-answer}
@@ -12,16 +11,15 @@ use Rattle.clearance.proofs.search.first_leak.Needs as need
 
 pub node-leak-requires : need.node-leak-requires
 node-leak-requires g c κs =
-    let same = ap (λ (k : Counts). k .nodes) (c .counts-of-counts .ensures .is) in
-    (c .pre, omega (arith, same, c .loop-point-test .taken))
+    (c .pre, omega (arith, ap (λ (k : Counts). k .nodes) (c .counts-of-counts .ensures .is), c .loop-point-test .taken))
 
 pub returns-in-Some : need.returns-in-Some
 returns-in-Some g c =
     let x = c .args .routine .now in
     let p = c .loop-point .point in
-    let same = ap (λ (k : Counts). k .nodes) (c .counts-of-counts .ensures .is) in
-    let inside : p < end (routine-of (x .listing)) = rw (end-of x) (omega (arith, same, c .loop-point-test .taken)) in
-    let C = setting (scene (g .L·Level .order) (g .M·LeakageModel .leakage (c .args .model)) (x .listing) (c .args .levels .now) (c .args .listener)) in
+    let inside : p < end (routine-of (x .listing)) = omega (arith, c .counts-of-counts .ensures .ends, c .loop-point-test .taken) in
+    let C =
+    setting (scene (g .L·Level .order) (g .M·LeakageModel .leakage (c .args .model)) (x .listing) (c .args .levels .now) (c .args .listener)) in
     leak-here C p (c .in-Some .site) inside (c .loop-point .inv)
     (subst (Node-answer C p (node (routine-of (x .listing)) p)) (c .in-Some .is) (c .node-leak .ensures))
 
@@ -34,8 +32,7 @@ loop-point-again g c =
 pub returns : need.returns
 returns g c =
     let x = c .args .routine .now in
-    let same = ap (λ (k : Counts). k .nodes) (c .counts-of-counts .ensures .is) in
-    let all : end (routine-of (x .listing)) ≤ c .loop-point .point = rw (end-of x) (omega (arith, same, c .loop-point-test .left)) in
+    let all : end (routine-of (x .listing)) ≤ c .loop-point .point = omega (arith, c .counts-of-counts .ensures .ends, c .loop-point-test .left) in
     clear-all
     (setting (scene (g .L·Level .order) (g .M·LeakageModel .leakage (c .args .model)) (x .listing) (c .args .levels .now) (c .args .listener)))
     (c .loop-point .point) all (c .loop-point .inv)
