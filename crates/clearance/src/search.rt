@@ -64,24 +64,12 @@ fn node_leak<L: Level, M: LeakageModel>(
     let counts = counts_of(routine);
     match node_at(routine, point) {
         Node::If { condition, .. } => {
-            operand_leak(
-                table.names(point, condition as usize),
-                heard,
-                true,
-                point,
-                1,
-                0,
-            )
+            let by_condition = table.names(point, condition as usize);
+            operand_leak(by_condition, heard, true, point, 1, 0)
         }
         Node::While { condition, .. } => {
-            operand_leak(
-                table.names(point, condition as usize),
-                heard,
-                true,
-                point,
-                1,
-                0,
-            )
+            let by_condition = table.names(point, condition as usize);
+            operand_leak(by_condition, heard, true, point, 1, 0)
         }
         Node::Operate {
             operator,
@@ -89,36 +77,18 @@ fn node_leak<L: Level, M: LeakageModel>(
             right,
             ..
         } => {
-            let by_left = model.watches_operand(operator, Side::Left);
-            let by_right = model.watches_operand(operator, Side::Right);
-            let first = operand_leak(
-                table.names(point, left as usize),
-                heard,
-                by_left,
-                point,
-                3,
-                0,
-            );
-            let second = operand_leak(
-                table.names(point, right as usize),
-                heard,
-                by_right,
-                point,
-                4,
-                0,
-            );
+            let left_watched = model.watches_operand(operator, Side::Left);
+            let right_watched = model.watches_operand(operator, Side::Right);
+            let by_left = table.names(point, left as usize);
+            let by_right = table.names(point, right as usize);
+            let first = operand_leak(by_left, heard, left_watched, point, 3, 0);
+            let second = operand_leak(by_right, heard, right_watched, point, 4, 0);
             first_of(first, second)
         }
         Node::Read { array, index, .. } => {
             let watched = model.watches_index(region_at(routine, array as usize));
-            operand_leak(
-                table.names(point, index as usize),
-                heard,
-                watched,
-                point,
-                3,
-                0,
-            )
+            let by_index = table.names(point, index as usize);
+            operand_leak(by_index, heard, watched, point, 3, 0)
         }
         Node::Write {
             array,

@@ -16,7 +16,7 @@ returns-in-If g c =
     subst (λ n. Node-answer C (c .args .point) n (c .operand-leak .result)) (sym (c .in-If .is) ∙ c .node-at .ensures .is)
     (if-answer C (c .args .point) (c .in-If .condition) (c .in-If .otherwise) (c .operand-leak .result)
     (held-of o l r levels (c .args .listener) (c .pre .0 .fits) (c .args .table .now) (c .pre .0 .reach) (c .args .point) 1 0 (c .in-If .condition) (If (c .in-If .condition) (c .in-If .otherwise)) (c .args .listener) (c .args .heard) _ (c .operand-leak .result) refl (c .pre .0 .flow)
-    (subst (λ s. Operand-answer s (c .args .heard) _ (c .args .point) 1 0 (c .operand-leak .result)) (c .names .ensures) (c .operand-leak .ensures))))
+    (subst (λ s. Operand-answer s (c .args .heard) _ (c .args .point) 1 0 (c .operand-leak .result)) (c .names-by-condition .ensures) (c .operand-leak .ensures))))
 
 pub returns-in-While : need.returns-in-While
 returns-in-While g c =
@@ -31,7 +31,7 @@ returns-in-While g c =
     subst (λ n. Node-answer C (c .args .point) n a) (sym (c .in-While .is) ∙ c .node-at .ensures .is)
     (while-answer C (c .args .point) x e a
     (held-of o l r levels (c .args .listener) (c .pre .0 .fits) (c .args .table .now) (c .pre .0 .reach) (c .args .point) 1 0 x (While x e) (c .args .listener) (c .args .heard) _ a refl (c .pre .0 .flow)
-    (subst (λ s. Operand-answer s (c .args .heard) _ (c .args .point) 1 0 a) (c .names-in-While .ensures) (c .operand-leak-in-While .ensures))))
+    (subst (λ s. Operand-answer s (c .args .heard) _ (c .args .point) 1 0 a) (c .names-by-condition-in-While .ensures) (c .operand-leak-in-While .ensures))))
 
 pub returns-in-Operate : need.returns-in-Operate
 returns-in-Operate g c =
@@ -47,11 +47,11 @@ returns-in-Operate g c =
     let b = c .operand-leak-second .result in
     rw (c .first-of .ensures)
     (subst (λ n. Node-answer C (c .args .point) n (or-else a b)) (sym (c .in-Operate .is) ∙ c .node-at .ensures .is)
-    (operate-answer C (c .args .point) (c .in-Operate .target) x y (c .in-Operate .operator) (c .watches-operand-by-left .result) (c .watches-operand-by-right .result) a b (c .watches-operand-by-left .ensures) (c .watches-operand-by-right .ensures)
-    (held-of o l r levels (c .args .listener) (c .pre .0 .fits) (c .args .table .now) (c .pre .0 .reach) (c .args .point) 3 0 x n (c .args .listener) (c .args .heard) (c .watches-operand-by-left .result) a refl (c .pre .0 .flow)
-    (subst (λ s. Operand-answer s (c .args .heard) (c .watches-operand-by-left .result) (c .args .point) 3 0 a) (c .names-in-Operate .ensures) (c .operand-leak-first .ensures)))
-    (held-of o l r levels (c .args .listener) (c .pre .0 .fits) (c .args .table .now) (c .pre .0 .reach) (c .args .point) 4 0 y n (c .args .listener) (c .args .heard) (c .watches-operand-by-right .result) b refl (c .pre .0 .flow)
-    (subst (λ s. Operand-answer s (c .args .heard) (c .watches-operand-by-right .result) (c .args .point) 4 0 b) (c .names-in-Operate-2 .ensures) (c .operand-leak-second .ensures)))))
+    (operate-answer C (c .args .point) (c .in-Operate .target) x y (c .in-Operate .operator) (c .watches-operand-left-watched .result) (c .watches-operand-right-watched .result) a b (c .watches-operand-left-watched .ensures) (c .watches-operand-right-watched .ensures)
+    (held-of o l r levels (c .args .listener) (c .pre .0 .fits) (c .args .table .now) (c .pre .0 .reach) (c .args .point) 3 0 x n (c .args .listener) (c .args .heard) (c .watches-operand-left-watched .result) a refl (c .pre .0 .flow)
+    (subst (λ s. Operand-answer s (c .args .heard) (c .watches-operand-left-watched .result) (c .args .point) 3 0 a) (c .names-by-left .ensures) (c .operand-leak-first .ensures)))
+    (held-of o l r levels (c .args .listener) (c .pre .0 .fits) (c .args .table .now) (c .pre .0 .reach) (c .args .point) 4 0 y n (c .args .listener) (c .args .heard) (c .watches-operand-right-watched .result) b refl (c .pre .0 .flow)
+    (subst (λ s. Operand-answer s (c .args .heard) (c .watches-operand-right-watched .result) (c .args .point) 4 0 b) (c .names-by-right .ensures) (c .operand-leak-second .ensures)))))
 
 pub returns-in-Read : need.returns-in-Read
 returns-in-Read g c =
@@ -68,7 +68,7 @@ returns-in-Read g c =
     subst (λ n. Node-answer C (c .args .point) n a) (sym (c .in-Read .is) ∙ c .node-at .ensures .is)
     (read-answer C (c .args .point) (c .in-Read .target) t i held a (c .watches-index-watched .ensures ∙ ap (λ z. l .watches-index (z .start) (z .length)) (c .region-at .ensures .is))
     (held-of o l r levels (c .args .listener) (c .pre .0 .fits) (c .args .table .now) (c .pre .0 .reach) (c .args .point) 3 0 i n (c .args .listener) (c .args .heard) held a refl (c .pre .0 .flow)
-    (subst (λ s. Operand-answer s (c .args .heard) held (c .args .point) 3 0 a) (c .names-in-Read .ensures) (c .operand-leak-in-Read .ensures))))
+    (subst (λ s. Operand-answer s (c .args .heard) held (c .args .point) 3 0 a) (c .names-by-index .ensures) (c .operand-leak-in-Read .ensures))))
 
 pub returns-in-rest : need.returns-in-rest
 returns-in-rest g c =
