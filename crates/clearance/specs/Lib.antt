@@ -4,3 +4,4 @@ pub mod Opens
 pub mod Examinations
 pub mod Least
 pub mod Stops
+pub mod LeakWays
