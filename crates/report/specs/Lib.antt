@@ -1,4 +1,6 @@
 pub mod Words
-pub mod Reasons
-pub mod Escapes
 pub mod Layouts
+pub mod Records
+pub mod Escapes
+pub mod Reasons
+pub mod Refusals

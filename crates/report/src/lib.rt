@@ -2,5 +2,7 @@
 
 pub mod escape;
 pub mod layout;
+pub mod record;
+pub mod refused;
 pub mod sentence;
 pub mod words;

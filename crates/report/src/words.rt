@@ -62,14 +62,20 @@ pub fn words(heap: Global, node: Node) -> Result<String, AllocError>
             right,
         } => {
             let sign = sign(operator);
-            format!(heap, "scalar {target} := scalar {left} {sign} scalar {right}")
+            format!(
+                heap,
+                "scalar {target} := scalar {left} {sign} scalar {right}"
+            )
         }
         Node::Select {
             target,
             condition,
             then,
             otherwise,
-        } => format!(heap, "scalar {target} := if scalar {condition} then scalar {then} else scalar {otherwise}"),
+        } => format!(
+            heap,
+            "scalar {target} := if scalar {condition} then scalar {then} else scalar {otherwise}"
+        ),
         Node::Read {
             target,
             array,

@@ -19,5 +19,5 @@ returns c =
     let low = one _ (hex (b % 16)) (c .hex-digit-2 .ensures .ascii) (c .hex-digit-2 .ensures .is) in
     onto (string-bytes (c .args .out .now)) (codes "\\x") _ (hex (b / 16) ∷ hex (b % 16) ∷ []) _ (c .in-Continue-push-str .ensures tt .bytes)
     (onto (string-bytes (c .push-str .last .self)) (hex (b / 16) ∷ []) _ (hex (b % 16) ∷ []) _
-      (onto-is _ _ _ _ high (c .in-Continue-push .ensures tt .bytes))
-      (onto-is _ _ _ _ low (c .in-Continue-push-2 .ensures tt .bytes)))
+    (onto-is _ _ _ _ high (c .in-Continue-push .ensures tt .bytes))
+    (onto-is _ _ _ _ low (c .in-Continue-push-2 .ensures tt .bytes)))
