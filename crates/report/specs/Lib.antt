@@ -4,3 +4,4 @@ pub mod Records
 pub mod Escapes
 pub mod Reasons
 pub mod Refusals
+pub mod Sheets

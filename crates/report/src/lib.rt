@@ -5,4 +5,5 @@ pub mod layout;
 pub mod record;
 pub mod refused;
 pub mod sentence;
+pub mod sheet;
 pub mod words;
