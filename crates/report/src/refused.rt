@@ -8,7 +8,7 @@ use crate::escape::escape;
 use crate::layout::part_of;
 use crate::layout::put_times;
 use crate::sentence::Reason;
-use listing::faults::Refusal;
+use listing::Refusal;
 use std::alloc::AllocError;
 use std::alloc::Global;
 

@@ -2,7 +2,7 @@
 
 ghost use mathlib.Core.Path.{_≡_};
 ghost use Rattle.report.specs.Reasons.{column-reason, region-reason, name-reason, block-reason, count-reason, place-reason, reason-of, reason-sentence};
-use listing::faults::Refusal;
+use listing::Refusal;
 
 /// What is wrong with a listing.
 #[derive(Clone, Copy)]
