@@ -7,6 +7,7 @@ ghost use Rattle.lines.specs.Text.{over, line-text};
 ghost use Rattle.listing.specs.Answers.{Kept, Written};
 ghost use Rattle.listing.specs.Texts.{region-line, node-as-line, numbered};
 use crate::faults::Refusal;
+use crate::faults::refused;
 use crate::parts::Listing;
 use crate::routine::Routine;
 use crate::text::header_line;
@@ -63,11 +64,7 @@ fn write_listing(listing: &Listing, room: &mut [u8]) -> Result<usize, Refusal>
     let nodes = listing.counts.nodes as usize;
     let needed = 51 * (1 + arrays + nodes);
     if room.len() < needed {
-        return Err(Refusal {
-            number: 16,
-            line: 0,
-            field: 0,
-        });
+        return Err(refused(16, 0, 0));
     }
     put_line(header_line(listing.counts), room, 0);
     put_regions(&listing.regions[0..arrays], room, 51);
