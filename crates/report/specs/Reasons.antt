@@ -53,12 +53,12 @@ reason-of r =
 
 abbrev pub reason-sentence : Reason → List ℕ
 reason-sentence NoWholeLines = codes "The listing is empty, or it is not made of whole lines of 51 bytes."
-reason-sentence NumberColumn = codes "The line number is not a decimal number, set right in its 4 columns and without leading zeros."
+reason-sentence NumberColumn = codes "The line number is not a decimal number that ends in column 4, after blanks and without leading zeros."
 reason-sentence LetterColumn = codes "Columns 5 and 6 are not a blank and one of the letters H A K M O Q R W I E F L J."
-reason-sentence FirstColumn = codes "Operand 1 is not a decimal number up to 4294967295, set right in its 11 columns and without leading zeros."
-reason-sentence SecondColumn = codes "Operand 2 is not a number up to 4294967295 set right in its 11 columns, or, where the letter takes none, is not blank."
-reason-sentence ThirdColumn = codes "Operand 3 is not a number up to 4294967295 set right in its 11 columns, or, where the letter takes none, is not blank."
-reason-sentence FourthColumn = codes "Operand 4 is not a number up to 4294967295 set right in its 11 columns, or, where the letter takes none, is not blank."
+reason-sentence FirstColumn = codes "Operand 1 is not a number up to 4294967295 that ends in its last column, after blanks and without leading zeros."
+reason-sentence SecondColumn = codes "Operand 2 is not a number up to 4294967295 that ends in its last column, after blanks and without leading zeros, or is not blank where the letter takes none."
+reason-sentence ThirdColumn = codes "Operand 3 is not a number up to 4294967295 that ends in its last column, after blanks and without leading zeros, or is not blank where the letter takes none."
+reason-sentence FourthColumn = codes "Operand 4 is not a number up to 4294967295 that ends in its last column, after blanks and without leading zeros, or is not blank where the letter takes none."
 reason-sentence NoNewline = codes "Column 51 is not a newline."
 reason-sentence NumberNotDue = codes "The line number is not the one due here: the header is 0, and arrays and nodes are each numbered from 0."
 reason-sentence LetterNotDue = codes "The letter is not one due here: first H, then A for each array, then the nodes."

@@ -47,7 +47,7 @@ fn put_byte(out: &mut String, byte: u8) -> Result<(), AllocError>
 }
 
 /// The bytes, each shown.
-pub fn escape(heap: Global, bytes: &[u8]) -> Result<String, AllocError>
+pub(crate) fn escape(heap: Global, bytes: &[u8]) -> Result<String, AllocError>
     ensures { λ r. ⌜ made r (λ s. string-bytes s ≡ escaped-text (now (bytes .entry))) ⌝ }
 {
     let mut out = String::new(heap);

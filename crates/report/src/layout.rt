@@ -10,7 +10,7 @@ use std::alloc::AllocError;
 use std::alloc::Global;
 
 /// Adds the text `count` times.
-pub fn put_times(out: &mut String, count: usize, text: &str) -> Result<(), AllocError>
+pub(crate) fn put_times(out: &mut String, count: usize, text: &str) -> Result<(), AllocError>
     ensures { λ r. ⌜ made r (λ _. string-bytes (now (out .exit)) ≡ string-bytes (now (out .entry)) ++ times count (now (text .entry))) ⌝ }
 {
     for _ in 0..count {
@@ -20,7 +20,7 @@ pub fn put_times(out: &mut String, count: usize, text: &str) -> Result<(), Alloc
 }
 
 /// The number, with blanks before it up to the width.
-pub fn right(heap: Global, width: usize, value: u64) -> Result<String, AllocError>
+pub(crate) fn right(heap: Global, width: usize, value: u64) -> Result<String, AllocError>
     ensures { λ r. ⌜ made r (λ s. string-bytes s ≡ set-right width value) ⌝ }
 {
     let digits = value.to_string(heap)?;
@@ -31,7 +31,7 @@ pub fn right(heap: Global, width: usize, value: u64) -> Result<String, AllocErro
 }
 
 /// At most `width` bytes from place `start` on.
-pub fn part_of(bytes: &[u8], start: usize, width: usize) -> &[u8]
+pub(crate) fn part_of(bytes: &[u8], start: usize, width: usize) -> &[u8]
     ensures { λ r. ⌜ now r ≡ part start width (now (bytes .entry)) ⌝ }
 {
     let end = bytes.len();

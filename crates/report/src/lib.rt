@@ -1,7 +1,7 @@
 //! The texts of the bench: what a routine is, node by node, and why a listing was refused.
 
-pub mod escape;
-pub mod layout;
+mod escape;
+mod layout;
 pub mod record;
 pub mod refused;
 pub mod sentence;

@@ -40,7 +40,7 @@ fn field_width(field: u32) -> usize
 }
 
 /// Blanks under what is shown before the field, and a mark under each character that is shown of the field.
-pub fn mark_under(heap: Global, line: &[u8], field: u32) -> Result<String, AllocError>
+pub(crate) fn mark_under(heap: Global, line: &[u8], field: u32) -> Result<String, AllocError>
     ensures { λ r. ⌜ made r (λ s. string-bytes s ≡ marker (now (line .entry)) field) ⌝ }
 {
     let start = field_start(field);

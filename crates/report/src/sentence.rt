@@ -130,17 +130,17 @@ impl Reason {
             Reason::NoWholeLines =>
                 "The listing is empty, or it is not made of whole lines of 51 bytes.",
             Reason::NumberColumn =>
-                "The line number is not a decimal number, set right in its 4 columns and without leading zeros.",
+                "The line number is not a decimal number that ends in column 4, after blanks and without leading zeros.",
             Reason::LetterColumn =>
                 "Columns 5 and 6 are not a blank and one of the letters H A K M O Q R W I E F L J.",
             Reason::FirstColumn =>
-                "Operand 1 is not a decimal number up to 4294967295, set right in its 11 columns and without leading zeros.",
+                "Operand 1 is not a number up to 4294967295 that ends in its last column, after blanks and without leading zeros.",
             Reason::SecondColumn =>
-                "Operand 2 is not a number up to 4294967295 set right in its 11 columns, or, where the letter takes none, is not blank.",
+                "Operand 2 is not a number up to 4294967295 that ends in its last column, after blanks and without leading zeros, or is not blank where the letter takes none.",
             Reason::ThirdColumn =>
-                "Operand 3 is not a number up to 4294967295 set right in its 11 columns, or, where the letter takes none, is not blank.",
+                "Operand 3 is not a number up to 4294967295 that ends in its last column, after blanks and without leading zeros, or is not blank where the letter takes none.",
             Reason::FourthColumn =>
-                "Operand 4 is not a number up to 4294967295 set right in its 11 columns, or, where the letter takes none, is not blank.",
+                "Operand 4 is not a number up to 4294967295 that ends in its last column, after blanks and without leading zeros, or is not blank where the letter takes none.",
             Reason::NoNewline => "Column 51 is not a newline.",
             Reason::NumberNotDue =>
                 "The line number is not the one due here: the header is 0, and arrays and nodes are each numbered from 0.",
