@@ -1,4 +1,4 @@
--- How many lines decide a fault, and no fewer; a column's fault is that of the leftmost field.
+-- How many lines decide a fault, and no fewer; what the line is that it stands on.
 use Prim.Native.Nat.{ℕ, zero, suc, _+_, _-_, _*_, _/_, _%_, _≤_, _<_, min}
 use mathlib.Core.Path.{_≡_, refl, sym, _∙_, ap, subst}
 use mathlib.Core.Bool.{Bool, true, false, cond, _||_}
@@ -18,19 +18,19 @@ use Rattle.lines.specs.declared.faults.LineFault.the-variants as fault
 use Rattle.lines.specs.declared.kind.Kind.the-variants.{Header}
 use Rattle.lines.specs.declared.line.Line.{Line}
 use Rattle.lines.specs.Kinds.{same-kind}
-use Rattle.lines.specs.Laws.{Leftmost}
+use Rattle.lines.specs.Laws.{Leftmost, Line-of}
 use Rattle.lines.specs.Lines.{bind, part, fault-at, line-read}
 use Rattle.lines.specs.Text.{over}
 use Rattle.lines.proofs.Back.{fault-line as column-line}
 use Rattle.lines.proofs.Leftmost.{leftmost}
-use Rattle.lines.proofs.Lines.{err-is-err}
+use Rattle.lines.proofs.Lines.{err-is-err, line-ok}
 use Rattle.rules.specs.declared.Node.{Node}
 use Rattle.rules.specs.declared.Region.{Region}
 use Rattle.listing.specs.declared.faults.RoutineFault.{RoutineFault}
 use Rattle.listing.specs.declared.faults.RoutineFault.the-variants as fault-of
 use Rattle.listing.specs.declared.parts.Counts.{Counts}
 use Rattle.listing.specs.declared.parts.Listing.{Listing}
-use Rattle.listing.specs.Answers.{deciding, Decide, Leftmost-column, Refused}
+use Rattle.listing.specs.Answers.{deciding, Decide, Some-line, Own-line, Refused}
 use Rattle.listing.specs.Blocks.{Open, scan, placed}
 use Rattle.listing.specs.Forms.{no-region}
 use Rattle.listing.specs.Nodes.{in-column, node-line, node-from, node-at}
@@ -327,31 +327,36 @@ not-sooner s (fault-of.Line g) e n h d =
       past-it z k b q never (inl w) = let u = w .0 in omega arith
       past-it z k b q never (inr w) = never (subst (λ j. Good z (j - 1)) q (w .1))
 
--- a column's fault is that of its line
-leftmost-column : (s : List ℕ) (g : LineFault) → Whole s (fault-of.Line g) → Leftmost-column s g
-leftmost-column s (fault.Column c) w = go (lines-known s (fault-of.Line (fault.Column c)) (w .2) (w .3)) where
-  go : Found s (length s / 51) (fault.Column c) → Leftmost (part (51 * c .line) 51 s) (c .line) c
-  go (inl v) = seen (v .0) (v .1) where
-    seen : c .line < length s / 51 → Seen s (c .line) (fault.Column c) → Leftmost (part (51 * c .line) 51 s) (c .line) c
-    seen b (inl u) = absurd (u .1)
-    seen b (inr u) =
-        let b₁ = w .1 in
-        leftmost (part (51 * c .line) 51 s) (c .line) (length-part (51 * c .line) 51 s (omega arith)) c (u .1 ∙ ap Err (sym (column-same (u .2))))
-  go (inr v) = absurd (v .2)
-leftmost-column s (fault.Misplaced l f) w = tt
-leftmost-column s (fault.Count l f) w = tt
-leftmost-column s (fault.Region l f) w = tt
-leftmost-column s (fault.Absent l f) w = tt
-leftmost-column s (fault.Unpaired l f) w = tt
-leftmost-column s (fault.TooDeep l) w = tt
+-- the line of a fault that is not a column's
+some-line : (s : List ℕ) (g : LineFault) → Inner g → length s ≡ 51 * (length s / 51) → Found s (length s / 51) g → Some-line s (line g)
+some-line s g n long (inl w) b = seen (w .1) where
+  seen : Seen s (line g) g → (x : Line) × Line-of (part (51 * line g) 51 s) x
+  seen (inl u) = (u .0 .0, line-ok (part (51 * line g) 51 s) (line g) (u .0 .0) (length-part (51 * line g) 51 s (omega arith)) (u .0 .1))
+  seen (inr u) = absurd (subst Inner (u .2) n)
+some-line s g n long (inr w) b = let u = w .0 in absurd (omega arith)
 
-leftmost-in : (s : List ℕ) (f : RoutineFault) → listing-read s ≡ Err f → (g : LineFault) → f ≡ fault-of.Line g → Leftmost-column s g
-leftmost-in s f e g q =
+-- the line of a fault
+own-line-is : (s : List ℕ) (g : LineFault) → length s ≡ 51 * (length s / 51) → Found s (length s / 51) g → Own-line s g
+own-line-is s (fault.Column c) long (inl w) = seen (w .0) (w .1) where
+  seen : c .line < length s / 51 → Seen s (c .line) (fault.Column c) → Leftmost (part (51 * c .line) 51 s) (c .line) c
+  seen b (inl u) = absurd (u .1)
+  seen b (inr u) =
+      leftmost (part (51 * c .line) 51 s) (c .line) (length-part (51 * c .line) 51 s (omega arith)) c (u .1 ∙ ap Err (sym (column-same (u .2))))
+own-line-is s (fault.Column c) long (inr w) = absurd (w .2)
+own-line-is s (fault.Misplaced l f) long w = some-line s (fault.Misplaced l f) tt long w
+own-line-is s (fault.Count l f) long w = some-line s (fault.Count l f) tt long w
+own-line-is s (fault.Region l f) long w = some-line s (fault.Region l f) tt long w
+own-line-is s (fault.Absent l f) long w = some-line s (fault.Absent l f) tt long w
+own-line-is s (fault.Unpaired l f) long w = some-line s (fault.Unpaired l f) tt long w
+own-line-is s (fault.TooDeep l) long w = some-line s (fault.TooDeep l) tt long w
+
+on-its-line : (s : List ℕ) (f : RoutineFault) → listing-read s ≡ Err f → (g : LineFault) → f ≡ fault-of.Line g → Own-line s g
+on-its-line s f e g q =
     elim (shape-or-whole s f e) [
       | inl w ↦ absurd (shape-line (length s / 51) g (w .1 ∙ q))
-      | inr w ↦ leftmost-column s g (subst (Whole s) q w)
+      | inr w ↦ own-line-is s g (w .1) (lines-known s (fault-of.Line g) (w .2) (w .3 ∙ ap Err q))
     ]
 
 -- the fault that the rules give, in the subject's words
 pub refused : (s : List ℕ) (f : RoutineFault) → listing-read s ≡ Err f → Refused s f
-refused s f e = record { none = none-has s f e; decided = decided s f e; not-sooner = not-sooner s f e; leftmost = leftmost-in s f e }
+refused s f e = record { none = none-has s f e; decided = decided s f e; not-sooner = not-sooner s f e; own-line = on-its-line s f e }

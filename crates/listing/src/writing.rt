@@ -32,12 +32,8 @@ fn put_regions(regions: &[Region], room: &mut [u8], at: usize)
     requires { ⌜ at + 51 * length (now regions) ≤ length (now room) ⌝ ∗ ⌜ length (now regions) ≤ 8 ⌝ }
     ensures { λ _. ⌜ now (room .exit) ≡ over at (numbered region-line 0 (now (regions .entry))) (now (room .entry)) ⌝ }
 {
-    for number in 0..regions.len() {
-        put_line(
-            region_line(number as u32, regions[number]),
-            room,
-            at + 51 * number,
-        );
+    for (number, region) in regions.iter().enumerate() {
+        put_line(region_line(number as u32, *region), room, at + 51 * number);
     }
 }
 
@@ -46,12 +42,8 @@ fn put_nodes(nodes: &[Node], room: &mut [u8], at: usize)
     requires { ⌜ at + 51 * length (now nodes) ≤ length (now room) ⌝ ∗ ⌜ length (now nodes) ≤ 128 ⌝ }
     ensures { λ _. ⌜ now (room .exit) ≡ over at (numbered node-as-line 0 (now (nodes .entry))) (now (room .entry)) ⌝ }
 {
-    for number in 0..nodes.len() {
-        put_line(
-            node_line(number as u32, nodes[number]),
-            room,
-            at + 51 * number,
-        );
+    for (number, node) in nodes.iter().enumerate() {
+        put_line(node_line(number as u32, *node), room, at + 51 * number);
     }
 }
 
