@@ -153,6 +153,7 @@ check unknown-command shew examples/lookup.lst
 check no-file show
 check extra-word show examples/lookup.lst examples/loop.lst
 check no-such-file show nowhere.lst
+check word-not-text show $'\xff.lst'
 check directory show examples
 
 if [ "$accept" = no ]; then

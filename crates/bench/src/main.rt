@@ -17,9 +17,20 @@ use failure::FailureFromIo;
 use failure::tell;
 use std::env;
 
+/// The words after the program's name.
+fn words_of(rt: &LibcRuntime) -> Result<Vec<String>, Failure> {
+    match env::args(rt) {
+        Ok(words) => Ok(words.skip(1).collect(rt.alloc())?),
+        Err(error) => {
+            let text = format!(rt.alloc(), "cannot read the call: {error}")?;
+            Err(Failure::Input { text })
+        }
+    }
+}
+
 /// Does what the call asks.
 fn run(rt: &LibcRuntime) -> Result<(), Failure> {
-    let words: Vec<String> = env::args(rt)?.skip(1).collect(rt.alloc())?;
+    let words = words_of(rt)?;
     let words = words.as_slice();
     match call_of(words.len(), verb_of(word_at(words, 0))) {
         Ok(Verb::Help) => {
