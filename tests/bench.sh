@@ -148,10 +148,12 @@ check help help
 check help-long --help
 check help-short -h
 check no-command
+check word-after-help help show
 check unknown-command shew examples/lookup.lst
 check no-file show
 check extra-word show examples/lookup.lst examples/loop.lst
 check no-such-file show nowhere.lst
+check word-not-text show $'\xff.lst'
 check directory show examples
 
 if [ "$accept" = no ]; then

@@ -1,9 +1,8 @@
 //! The call: which command, and on which file.
 
 ghost use mathlib.Core.Path.{_≡_};
-ghost use Rattle.bench.specs.Verbs.{verb-of};
-use crate::failure::Failure;
-use crate::failure::FailureFromAlloc;
+ghost use Rattle.bench.specs.Calls.{call-of, verb-of};
+use std::alloc::AllocError;
 use std::alloc::Global;
 
 pub const USAGE: &str =
@@ -16,11 +15,14 @@ pub enum Verb {
     Show,
 }
 
-/// What the call asks for.
-#[derive(Drop)]
-pub enum Command {
-    Help,
-    Show { file: String },
+/// What is wrong with a call.
+#[derive(Clone, Copy)]
+pub enum Misuse {
+    NoCommand,
+    UnknownCommand,
+    WordAfterHelp,
+    NoFile,
+    SecondFile,
 }
 
 /// The verb that the word names.
@@ -34,36 +36,51 @@ pub fn verb_of(word: &str) -> Option<Verb>
     }
 }
 
-/// The one file that follows the verb.
-fn file_of(heap: Global, words: &[String]) -> Result<String, Failure> {
-    if words.len() < 2 {
-        let text = String::from_str(heap, "show wants a file")?;
-        return Err(Failure::Misuse { text });
+/// What a call of `count` words asks for, the first of which names the verb.
+pub fn call_of(count: usize, verb: Option<Verb>) -> Result<Verb, Misuse>
+    ensures { λ r. ⌜ r ≡ call-of count verb ⌝ }
+{
+    if count == 0 {
+        return Err(Misuse::NoCommand);
     }
-    if words.len() > 2 {
-        let extra = words[2].as_str();
-        let text = format!(heap, "show takes one file, and not '{extra}' too")?;
-        return Err(Failure::Misuse { text });
+    match verb {
+        None => Err(Misuse::UnknownCommand),
+        Some(Verb::Help) => {
+            if count > 1 {
+                return Err(Misuse::WordAfterHelp);
+            }
+            Ok(Verb::Help)
+        }
+        Some(Verb::Show) => {
+            if count < 2 {
+                return Err(Misuse::NoFile);
+            }
+            if count > 2 {
+                return Err(Misuse::SecondFile);
+            }
+            Ok(Verb::Show)
+        }
     }
-    Ok(String::from_str(heap, words[1].as_str())?)
 }
 
-/// The command that the words after the program's name call for.
-pub fn command_of(heap: Global, words: &[String]) -> Result<Command, Failure> {
-    if words.is_empty() {
-        let text = String::from_str(heap, "no command")?;
-        return Err(Failure::Misuse { text });
+/// The word at that place, or nothing.
+pub fn word_at(words: &[String], place: usize) -> &str {
+    match words.get(place) {
+        Some(word) => word.as_str(),
+        None => "",
     }
-    let first = words[0].as_str();
-    match verb_of(first) {
-        Some(Verb::Help) => Ok(Command::Help),
-        Some(Verb::Show) => {
-            let file = file_of(heap, words)?;
-            Ok(Command::Show { file })
-        }
-        None => {
-            let text = format!(heap, "there is no command '{first}'")?;
-            Err(Failure::Misuse { text })
-        }
+}
+
+/// What is wrong with the call, in words.
+pub fn misuse_text(heap: Global, misuse: Misuse, words: &[String]) -> Result<String, AllocError> {
+    let first = word_at(words, 0);
+    let second = word_at(words, 1);
+    let third = word_at(words, 2);
+    match misuse {
+        Misuse::NoCommand => String::from_str(heap, "no command"),
+        Misuse::UnknownCommand => format!(heap, "there is no command '{first}'"),
+        Misuse::WordAfterHelp => format!(heap, "{first} stands alone, without '{second}'"),
+        Misuse::NoFile => String::from_str(heap, "show wants a file"),
+        Misuse::SecondFile => format!(heap, "show takes one file, and not '{third}' too"),
     }
 }

@@ -26,9 +26,15 @@ fn read_named(rt: &LibcRuntime, name: &str) -> io::Result<Vec<u8>> {
     read_some(rt.alloc(), file)
 }
 
+/// What the input is called.
+fn shown_name(name: &str) -> &str {
+    if name == "-" { "standard input" } else { name }
+}
+
 /// All bytes of the file, or of standard input where the name is `-`.
 pub fn read(rt: &LibcRuntime, name: &str) -> Result<Vec<u8>, Failure> {
     let heap = rt.alloc();
+    let shown = shown_name(name);
     match read_named(rt, name) {
         Ok(bytes) => {
             if bytes.len() <= MOST_BYTES {
@@ -36,12 +42,12 @@ pub fn read(rt: &LibcRuntime, name: &str) -> Result<Vec<u8>, Failure> {
             }
             let text = format!(
                 heap,
-                "{name} has more than {MOST_BYTES} bytes, and no listing has so many"
+                "{shown} has more than {MOST_BYTES} bytes, and no listing has so many"
             )?;
             Err(Failure::Input { text })
         }
         Err(error) => {
-            let text = format!(heap, "cannot read {name}: {error}")?;
+            let text = format!(heap, "cannot read {shown}: {error}")?;
             Err(Failure::Input { text })
         }
     }

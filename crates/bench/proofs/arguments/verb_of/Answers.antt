@@ -7,7 +7,7 @@ use lib.Chars.{codes}
 use Rattle.std.specs.declared.option.Option.the-variants.{None}
 use Rattle.std.specs.shelf.Text.{sameBytes}
 use Rattle.std.proofs.shelf.Equals.{sameBytes-decides}
-use Rattle.bench.specs.Verbs.{verb-of}
+use Rattle.bench.specs.Calls.{verb-of}
 use Rattle.bench.proofs.arguments.verb_of.Needs as need
 
 differs : (s t : List ℕ) → (s ≡ t → ⊥) → sameBytes s t ≡ false
