@@ -19,6 +19,10 @@ Has s k = bit (s .bits) k ≡ 1
 abbrev pub has : NameSet → ℕ → Bool
 has s k = eqb (bit (s .bits) k) 1
 
+-- The set that has no name.
+abbrev pub no-names : NameSet
+no-names = record { bits = 0 }
+
 -- The lowest name of a set, if it has one.
 abbrev pub Lowest : NameSet → Option ℕ → Type 0
 Lowest s None = (k : ℕ) → Has s k → ⊥

@@ -10,6 +10,7 @@ mod table;
 
 pub use level::Level;
 pub use name_set::NameSet;
+pub use name_set::NameSetPartialEq;
 pub use owners::Owners;
 pub use owners_order::OwnersLevel;
 pub use pair::Pair;

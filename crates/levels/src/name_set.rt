@@ -4,7 +4,7 @@ ghost use mathlib.Core.Path.{_≡_};
 ghost use mathlib.Core.Logic.{_⊎_, _↔_};
 ghost use mathlib.Core.Bool.{true};
 ghost use Prim.Native.Nat.{ℕ, _<_, _≤_};
-ghost use Rattle.levels.specs.Names.{Has, has, Lowest};
+ghost use Rattle.levels.specs.Names.{Has, has, no-names, Lowest};
 
 /// A set of start names below 32: name k is in it where bit k stands.
 #[derive(Clone, Copy, PartialEq, Eq)]
@@ -15,7 +15,8 @@ pub struct NameSet {
 impl NameSet {
     /// No name.
     pub fn empty() -> NameSet
-        ensures { λ r. ⌜ ((k : ℕ) → Has r k → ⊥) ⌝ }
+        ensures is { λ r. ⌜ r ≡ no-names ⌝ }
+        ensures holds { λ r. ⌜ ((k : ℕ) → Has r k → ⊥) ⌝ }
     {
         NameSet { bits: 0 }
     }

@@ -11,4 +11,4 @@ returns-then-name-lt32 c =
     (λ h. let e = bit-pow (c .args .name) k h in (omega arith, e), λ h. rw (h .1) (bit-pow-same (c .args .name)))
 
 pub returns-else-name-lt32 : need.returns-else-name-lt32
-returns-else-name-lt32 c = λ k. (λ h. absurd (c .empty .ensures k h), λ h. absurd (omega (arith, h .0, h .1, c .if-name-lt32 .left)))
+returns-else-name-lt32 c = λ k. (λ h. absurd (c .empty .ensures .holds k h), λ h. absurd (omega (arith, h .0, h .1, c .if-name-lt32 .left)))
