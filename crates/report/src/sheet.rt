@@ -11,9 +11,9 @@ ghost use Rattle.report.specs.Records.{record-text};
 ghost use Rattle.report.specs.Sheets.{back-text, listing-of, Shown};
 use crate::record::record_text;
 use crate::refused::refusal_text;
+use listing::Routine;
 use listing::load;
 use listing::write;
-use listing::Routine;
 use std::alloc::AllocError;
 use std::alloc::Global;
 
