@@ -1,5 +1,4 @@
 -- The limits of a listing.
--- Assumes nothing.
 use Prim.Native.Nat.{_≤_}
 use Rattle.listing.specs.declared.parts.Counts.{Counts}
 

@@ -1,5 +1,4 @@
 -- Which names are open at a point: a scalar if only heard names reach it, an array if it is heard.
--- Assumes nothing.
 use mathlib.Core.Logic.{_⊎_, _↔_}
 use Prim.Native.Nat.{ℕ, _+_, _<_, _≤_}
 use lib.ListN.{getD}

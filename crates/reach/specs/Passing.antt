@@ -1,5 +1,4 @@
 -- What a node passes on of the names that reach the scalars before it.
--- Assumes nothing.
 use mathlib.Core.Path.{_≡_}
 use mathlib.Core.Bool.{true, false}
 use mathlib.Core.Logic.{_⊎_}

@@ -1,5 +1,4 @@
 -- The reach table: the start names that reach each scalar at each point.
--- Assumes nothing.
 use mathlib.Core.List.{[]}
 use mathlib.Core.Logic.{_↔_}
 use Prim.Native.Nat.{ℕ}

@@ -13,7 +13,7 @@ use crate::table::Row;
 use crate::work::Work;
 use crate::work::go_on;
 use levels::NameSet;
-use listing::routine::Routine;
+use listing::Routine;
 
 fn empty_row() -> Row
     ensures { λ r. ⌜ ((k name : ℕ) → Has (at r k) name → ⊥) ⌝ }

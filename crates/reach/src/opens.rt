@@ -13,8 +13,8 @@ use crate::table::ReachTable;
 use crate::table::Row;
 use crate::table::set_at;
 use levels::NameSet;
-use listing::parts::Counts;
-use listing::routine::Routine;
+use listing::Counts;
+use listing::Routine;
 
 /// For each point the names that are open there: scalar k is name k, and array t is name s + t, where there are s scalars.
 #[derive(Clone, Copy)]

@@ -11,7 +11,7 @@ ghost use Rattle.reach.specs.Passing.{target-of, Inflow, Flow};
 ghost use Rattle.reach.specs.Table.{at};
 use crate::table::Row;
 use levels::NameSet;
-use listing::parts::Counts;
+use listing::Counts;
 use rules::Node;
 
 // The scalar that a node sets.

@@ -5,8 +5,8 @@ ghost use Prim.Native.Nat.{ℕ, _<_, _≤_};
 ghost use Rattle.rules.specs.Routine.{node, region, end, Next, Operands-exist, Accepted};
 ghost use Rattle.listing.specs.Forms.{routine-of};
 ghost use Rattle.reach.specs.Limits.{Within-limits};
-use listing::parts::Counts;
-use listing::routine::Routine;
+use listing::Counts;
+use listing::Routine;
 use rules::Node;
 use rules::Region;
 
@@ -14,6 +14,7 @@ use rules::Region;
 pub fn counts_of(routine: &Routine) -> Counts
     ensures is { λ r. ⌜ r ≡ now (routine .entry) .listing .counts ⌝ }
     ensures within { λ r. ⌜ Within-limits r ⌝ }
+    ensures ends { λ r. ⌜ r .nodes ≡ end (routine-of (now (routine .entry) .listing)) ⌝ }
 {
     routine.listing().counts
 }

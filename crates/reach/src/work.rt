@@ -12,7 +12,7 @@ use crate::reading::counts_of;
 use crate::reading::node_at;
 use crate::table::ReachTable;
 use crate::table::Row;
-use listing::routine::Routine;
+use listing::Routine;
 
 #[derive(Clone, Copy)]
 pub(crate) struct Work {

@@ -1,0 +1,3 @@
+mod Holding
+mod Searching
+pub mod Tellings
