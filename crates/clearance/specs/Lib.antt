@@ -4,4 +4,3 @@ pub mod Opens
 pub mod Examinations
 pub mod Least
 pub mod Stops
-pub mod LeakWays

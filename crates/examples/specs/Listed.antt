@@ -6,7 +6,7 @@ use Rattle.rules.specs.declared.Node.{Node}
 use Rattle.rules.specs.declared.Node.the-variants.{Constant}
 use Rattle.rules.specs.declared.Region.{Region}
 use Rattle.listing.specs.declared.parts.Listing.{Listing}
-use Rattle.listing.specs.Reading.{no-region}
+use Rattle.listing.specs.Forms.{no-region}
 
 -- one array, by its first cell and its length
 abbrev pub cells : ℕ → ℕ → List Region

@@ -7,6 +7,7 @@ ghost use Rattle.lines.specs.Text.{over, line-text};
 ghost use Rattle.listing.specs.Answers.{Kept, Written};
 ghost use Rattle.listing.specs.Texts.{region-line, node-as-line, numbered};
 use crate::faults::Refusal;
+use crate::faults::refused;
 use crate::parts::Listing;
 use crate::routine::Routine;
 use crate::text::header_line;
@@ -31,12 +32,8 @@ fn put_regions(regions: &[Region], room: &mut [u8], at: usize)
     requires { ⌜ at + 51 * length (now regions) ≤ length (now room) ⌝ ∗ ⌜ length (now regions) ≤ 8 ⌝ }
     ensures { λ _. ⌜ now (room .exit) ≡ over at (numbered region-line 0 (now (regions .entry))) (now (room .entry)) ⌝ }
 {
-    for number in 0..regions.len() {
-        put_line(
-            region_line(number as u32, regions[number]),
-            room,
-            at + 51 * number,
-        );
+    for (number, region) in regions.iter().enumerate() {
+        put_line(region_line(number as u32, *region), room, at + 51 * number);
     }
 }
 
@@ -45,12 +42,8 @@ fn put_nodes(nodes: &[Node], room: &mut [u8], at: usize)
     requires { ⌜ at + 51 * length (now nodes) ≤ length (now room) ⌝ ∗ ⌜ length (now nodes) ≤ 128 ⌝ }
     ensures { λ _. ⌜ now (room .exit) ≡ over at (numbered node-as-line 0 (now (nodes .entry))) (now (room .entry)) ⌝ }
 {
-    for number in 0..nodes.len() {
-        put_line(
-            node_line(number as u32, nodes[number]),
-            room,
-            at + 51 * number,
-        );
+    for (number, node) in nodes.iter().enumerate() {
+        put_line(node_line(number as u32, *node), room, at + 51 * number);
     }
 }
 
@@ -63,11 +56,7 @@ fn write_listing(listing: &Listing, room: &mut [u8]) -> Result<usize, Refusal>
     let nodes = listing.counts.nodes as usize;
     let needed = 51 * (1 + arrays + nodes);
     if room.len() < needed {
-        return Err(Refusal {
-            number: 16,
-            line: 0,
-            field: 0,
-        });
+        return Err(refused(16, 0, 0));
     }
     put_line(header_line(listing.counts), room, 0);
     put_regions(&listing.regions[0..arrays], room, 51);

@@ -1,0 +1,3 @@
+pub mod Views
+pub mod Slots
+pub mod Runs

@@ -1,0 +1,65 @@
+//! Advance.
+
+ghost use mathlib.Core.Path.{_≡_};
+ghost use mathlib.Core.Bool.{true, false, not};
+ghost use Prim.Native.Nat.{_<_};
+ghost use lib.Dec.{eqb, ltb};
+ghost use lib.ListN.{length, drop};
+ghost use Rattle.rules.specs.Routine.{end};
+ghost use Rattle.rules.specs.Run.{line, step};
+ghost use Rattle.rules.specs.Run.Call.{Advance};
+ghost use Rattle.listing.specs.Forms.{routine-of};
+ghost use Rattle.run.specs.Views.{of-line};
+ghost use Rattle.run.specs.Runs.{terms-in, state-of, answer-to, state-past, advanced};
+use super::Run;
+use crate::memory::Advanced;
+use crate::memory::LeakLine;
+use crate::steps::mark_of;
+use crate::steps::step_memory;
+use crate::steps::step_point;
+use leakage::LeakageModel;
+use reach::node_at;
+
+impl<M: LeakageModel> Run<'_, M> {
+    // Whether the run stands at the end.
+    fn at_end(&self) -> bool
+        ensures ended { λ r. ⌜ r ≡ eqb (now (self .entry) .point) (end (routine-of (now (now (self .entry) .exam) .routine .listing))) ⌝ }
+        ensures going { λ r. ⌜ ltb (now (self .entry) .point) (end (routine-of (now (now (self .entry) .exam) .routine .listing))) ≡ not r ⌝ }
+    {
+        self.point == self.exam.routine().listing().counts.nodes
+    }
+
+    // One step, with its leak line.
+    fn step(&mut self) -> LeakLine
+        requires { ⌜ now self .point < end (routine-of (now (now self .exam) .routine .listing)) ⌝ }
+        ensures line { λ r. ⌜ of-line r ≡ line (terms-in leakage (now (self .entry)) .model) (terms-in leakage (now (self .entry)) .routine) (state-of (now (self .entry))) ⌝ }
+        ensures state { λ _. ⌜ state-of (now (self .exit)) ≡ step (terms-in leakage (now (self .entry)) .routine) (state-of (now (self .entry))) ⌝ }
+        ensures exam { λ _. ⌜ now (now (self .exit) .exam) ≡ now (now (self .entry) .exam) ⌝ }
+    {
+        let routine = self.exam.routine();
+        let point = self.point;
+        let node = node_at(routine, point as usize);
+        let mark = mark_of(self.exam.model(), routine, node, &self.memory);
+        self.point = step_point(node, point, &self.memory);
+        step_memory(routine, node, &mut self.memory);
+        LeakLine { node: point, mark }
+    }
+
+    /// One step for each place of `lines`, until the places or the routine end. Places past the count are left as they were.
+    pub fn advance(&mut self, lines: &mut [LeakLine]) -> Advanced
+        ensures answer { λ r. ⌜ advanced r (now (lines .exit)) ≡ answer-to leakage (now (self .entry)) (Advance (length (now (lines .entry)))) ⌝ }
+        ensures rest { λ r. ⌜ drop (r .count) (now (lines .exit)) ≡ drop (r .count) (now (lines .entry)) ⌝ }
+        ensures state { λ _. ⌜ state-of (now (self .exit)) ≡ state-past (now (self .entry)) (Advance (length (now (lines .entry)))) ⌝ }
+        ensures exam { λ _. ⌜ now (now (self .exit) .exam) ≡ now (now (self .entry) .exam) ⌝ }
+    {
+        let mut count = 0;
+        while count < lines.len() && !self.at_end() {
+            lines[count] = self.step();
+            count += 1;
+        }
+        Advanced {
+            count,
+            at_end: self.at_end(),
+        }
+    }
+}

@@ -1,0 +1,155 @@
+-- From the rules' two runs to what both and trial promise.
+use mathlib.Core.Path.{_≡_, refl, sym, ap, subst, subst₂, _∙_}
+use mathlib.Core.Bool.{Bool, true, false}
+use mathlib.Core.List.{List, map}
+use mathlib.Core.Logic.{_⊎_, inl, inr}
+use Prim.Native.Nat.{ℕ, _+_, _<_, _≤_}
+use native.Mathlib.Omega.{arith}
+use lib.ListN.{length}
+use Rattle.std.proofs.shelf.Tests.{both-ways, cases-eq}
+use Rattle.std.specs.declared.option.Option.{Option}
+use Rattle.std.specs.declared.option.Option.the-variants.{Some, None}
+use Rattle.std.specs.declared.result.Result.the-variants.{Ok, Err}
+use Rattle.rules.specs.Order.{Order, Lawful}
+use Rattle.rules.specs.Leakage.{Leakage, Honest}
+use Rattle.rules.specs.Clearance.{Setting, array-level}
+use Rattle.rules.specs.Run.{Run, Sized, Agree, terms}
+use Rattle.rules.proofs.Proved.{two-runs}
+use Rattle.listing.specs.declared.routine.Routine.{Routine}
+use Rattle.reach.proofs.Loaded.{formed-of, arrays-of}
+use Rattle.clearance.specs.declared.record.Examination.{Examination}
+use Rattle.clearance.specs.declared.outcome.Outcome.{Outcome}
+use Rattle.clearance.specs.declared.outcome.Outcome.the-variants as outcome
+use Rattle.clearance.specs.declared.outcome.ClearFault.{ClearFault}
+use Rattle.clearance.specs.declared.outcome.ClearFault.the-variants as fault
+use Rattle.clearance.specs.Outcomes.{is-granted, fault-of}
+use Rattle.clearance.specs.Opens.{opens-of}
+use Rattle.clearance.specs.Scenes.{Scene, scene, setting, Fitting}
+use Rattle.clearance.specs.Examinations.{Examined, Right-opens, Right-outcome}
+use Rattle.clearance.proofs.Tellings.{earned}
+use Rattle.run.specs.Views.{of-memory, zeroed}
+use Rattle.run.specs.Runs.{terms-of, state-of}
+use Rattle.twin.specs.declared.pair.Pair.{Pair}
+use Rattle.twin.specs.declared.pair.Declined.{Declined}
+use Rattle.twin.specs.declared.pair.Reason.{Reason}
+use Rattle.twin.specs.declared.pair.Reason.the-variants.{Room, Clear}
+use Rattle.twin.specs.declared.trying.Wiped.{Wiped}
+use Rattle.twin.specs.Logs.{Journal, of-call, start-of, stop-of, Logged}
+use Rattle.twin.specs.Twins.{Same-look, Look-alike, Logged-by-rules, Kept, Ran, Tried, Declined-for, Declined-by, Both-open, Paired, scene-in, both-room}
+use Rattle.twin.proofs.Telling.{same-opens, logged-same}
+
+module _ {L M : Type 0} (o : Order L) (w : M → Leakage) (levels : List L) (listener : L) (e : Examination M)
+    (granted : is-granted (e .outcome) ≡ true) (E : Examined (scene-in o w levels listener e) e) where
+  abbrev X : Scene L
+  X = scene-in o w levels listener e
+
+  abbrev C : Setting L
+  C = setting X
+
+  opens : Right-opens C (e .routine .listing .counts .arrays) (e .opens)
+  opens = E .right-opens (earned X e E granted .0)
+
+  -- The log of a run of the record is that of the rules.
+  pub by-rules : (j : Journal) → Logged (terms-of w e) (start-of j) j → Logged-by-rules C j
+  by-rules j l =
+      record {
+        told = (opens-of (e .opens), opens .scalars);
+        logged = λ tells T.
+            logged-same (terms-of w e) tells (λ t. o .flows (array-level (C .labelled) t) listener) (formed-of (e .routine))
+            (same-opens C (opens-of (e .opens)) tells (opens .scalars) T)
+            (λ t h. opens .array-is 0 t (omega arith) (omega (arith, arrays-of (e .routine), h)))
+            (start-of j) j (omega arith) l;
+      }
+
+  pub looks :
+      Lawful o
+      → Honest (w (e .model))
+      → (j k : Journal)
+      → Sized (of-memory (j .memory))
+      → Sized (of-memory (k .memory))
+      → Logged (terms-of w e) (start-of j) j
+      → Logged (terms-of w e) (start-of k) k
+      → (s t : Run)
+      → s ≡ stop-of (e .routine .listing) j
+      → t ≡ stop-of (e .routine .listing) k
+      → Look-alike X j k s t
+  looks laws honest j k z z′ l l′ s t at at′ agree alike =
+      let one = by-rules j l .logged (opens-of (e .opens)) (opens .scalars) in
+      let two = by-rules k l′ .logged (opens-of (e .opens)) (opens .scalars) in
+      let out =
+      two-runs C laws honest (formed-of (e .routine)) (earned X e E granted .1) (opens-of (e .opens)) (opens .scalars)
+      (of-memory (j .memory)) (of-memory (k .memory)) z z′ agree (map of-call (j .calls)) (map of-call (k .calls)) alike in
+      record {
+        same-heard = one .answered ∙ out .same-answers ∙ sym (two .answered);
+        same-point = ap (λ u. u .point) at ∙ out .same-point ∙ sym (ap (λ u. u .point) at′);
+        agree = subst₂ (λ u v. Agree C (u .point) (u .memory) (v .memory)) (sym at) (sym at′) (out .agree);
+      }
+
+-- What clear refuses is the refusal of the rules.
+module _ {L : Type 0} (x : Scene L) (j k : Journal) (room : both-room j k ≡ true) where
+  abbrev Said : Option ClearFault → Type 0
+  Said None = Unit {0}
+  Said (Some f) = Declined-for x j k (Clear f)
+
+  abbrev Is-some : Option ClearFault → Type 0
+  Is-some None = ⊥
+  Is-some (Some f) = Unit {0}
+
+  abbrev is-length : Outcome → Bool
+  is-length outcome.Granted = false
+  is-length outcome.TableLength = true
+  is-length (outcome.Leak s) = false
+
+  refused-so :
+      (out : Outcome) (f : ClearFault)
+      → ((Fitting x → ⊥) → out ≡ outcome.TableLength)
+      → (Fitting x → Right-outcome (setting x) out)
+      → fault-of out ≡ Some f
+      → Declined-for x j k (Clear f)
+  refused-so outcome.Granted f wrong right h = absurd (subst Is-some (sym h) tt)
+  refused-so outcome.TableLength f wrong right h = subst Said h (room, λ fit. right fit)
+  refused-so (outcome.Leak s) f wrong right h =
+      elim (cases-eq (length (x .levels)) (x .listing .counts .scalars + x .listing .counts .arrays)) [
+        | inl fit ↦ subst Said h (room, fit, right fit)
+        | inr no-fit ↦ absurd (both-ways false refl (ap is-length (wrong no-fit)))
+      ]
+
+module _ {L M : Type 0} (o : Order L) (w : M → Leakage) (levels : List L) (listener : L) (e : Examination M) (j k : Journal)
+    (routine : Routine) (model : M) (keeps : (e .routine ≡ routine) × (e .model ≡ model))
+    (E : Examined (scene o (w model) (routine .listing) levels listener) e) where
+  declined-own : Examined (scene-in o w levels listener e) e → (why : Reason) → Declined-by e j k why → Declined-for (scene-in o w levels listener e) j k why
+  declined-own E′ Room h = h
+  declined-own E′ (Clear f) h =
+      refused-so (scene-in o w levels listener e) j k (h .0) (e .outcome) f (λ n. E′ .wrong-length n .0) (λ fit. E′ .right-outcome fit) (h .1)
+
+  -- Where no run was begun.
+  pub declined : (d : Declined) → Declined-by e j k (d .reason) × Kept j k d → Tried (scene o (w model) (routine .listing) levels listener) j k (Err d)
+  declined d h =
+      let P : Routine → M → Type 0 =
+      λ r m. Examined (scene o (w m) (r .listing) levels listener) e → Declined-for (scene o (w m) (r .listing) levels listener) j k (d .reason) in
+      (subst₂ P (keeps .0) (keeps .1) (λ E′. declined-own E′ (d .reason) (h .0)) E, h .1)
+
+  -- Where both lists were made, and both runs are closed.
+  pub tried :
+      (p : Pair M) (wiped : Wiped)
+      → Both-open o w levels listener e j k p
+      → wiped .first ≡ zeroed
+      → wiped .second ≡ zeroed
+      → Tried (scene o (w model) (routine .listing) levels listener) j k (Ok wiped)
+  tried p wiped b z z′ =
+      let P : Routine → M → Type 0 =
+      λ r m. Examined (scene o (w m) (r .listing) levels listener) e → Ran (scene o (w m) (r .listing) levels listener) j k wiped in
+      let X′ = scene-in o w levels listener e in
+      let own : P (e .routine) (e .model) =
+      λ E′.
+      record {
+        room = b .room;
+        fits = earned X′ e E′ (b .granted) .0;
+        cleared = earned X′ e E′ (b .granted) .1;
+        first-log = by-rules o w levels listener e (b .granted) E′ j (b .first-log);
+        second-log = by-rules o w levels listener e (b .granted) E′ k (b .second-log);
+        alike = subst₂ (Look-alike X′ j k) (b .first-state) (b .second-state) (b .alike E′);
+        first-wiped = z;
+        second-wiped = z′;
+      } in
+      subst₂ P (keeps .0) (keeps .1) own E
