@@ -4,6 +4,8 @@ mod hunt;
 mod leaking;
 mod place;
 mod steps;
+#[cfg(test)]
+mod tests;
 mod tracing;
 
 pub use leaking::leak_path;
