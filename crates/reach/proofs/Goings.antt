@@ -60,14 +60,6 @@ module _ (r : Routine) (old new : Work) (p : ℕ) (back : Bool) (within : p < en
         settled-still k (P .still k s) (elim (cases-eq k p) [ inl e ↦ inl e | inr ne ↦ inr (G .settled k l (P .was-still k s ne)) ]);
   }
 
-pub sweeping-none : (r : Routine) (w : Work) → Going r w → Sweeping r w w 0 false
-sweeping-none r w G = record {
-  going = G;
-  clean = λ h k l. absurd (omega arith);
-  falls = λ h. absurd (both-ways false refl h);
-  less = omega arith;
-}
-
 module _ (r : Routine) (old mid : Work) (i : ℕ) (again : Bool) (S : Sweeping r old mid i again) where
   pub swept-past : pending-at mid i ≡ false → Sweeping r old mid (i + 1) again
   swept-past c = record {

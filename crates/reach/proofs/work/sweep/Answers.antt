@@ -4,12 +4,9 @@ use native.Mathlib.Omega.{arith}
 use Rattle.rules.specs.Routine.{end}
 use Rattle.listing.specs.Forms.{routine-of}
 use Rattle.reach.specs.Work.{Sweeping}
-use Rattle.reach.proofs.Goings.{sweeping-none, swept-past, swept-on}
+use Rattle.reach.proofs.Goings.{swept-past, swept-on}
 use Rattle.reach.proofs.work.sweep.Needs as need
 use Rattle.reach.proofs.work.sweep.Needs.{then-work-point, else-work-point}
-
-pub loop-point-holds : need.loop-point-holds
-loop-point-holds c = sweeping-none (routine-of (c .args .routine .now .listing)) (c .args .work .now) (c .pre)
 
 pub loop-point-again : need.loop-point-again
 loop-point-again c =
