@@ -1,2 +1,3 @@
-mod Pieces
 mod Digit
+mod Parts
+mod Pieces

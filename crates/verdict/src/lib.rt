@@ -1,10 +1,12 @@
 //! The verdict slip on level digits and a listing, as a C function.
 
 mod digits;
+mod input;
 mod judging;
 mod slip;
 
 ghost use Rattle.verdict.specs.Verdicts.{Answered};
+pub use input::slip_on;
 pub use judging::judge;
 pub use slip::Slip;
 pub use slip::slip_text;
