@@ -28,12 +28,12 @@ pub fn flowing<L: Level>(levels: &[L], bound: L) -> NameSet
     ensures { λ r. ⌜ Flow-to order (now (levels .entry)) bound r ⌝ }
 {
     let mut names = NameSet::empty();
-    let mut name = 0;
+    let mut place = 0;
     for level in levels {
         if level.flows_to(bound) {
-            names = names.union(NameSet::single(name));
+            names = names.union(NameSet::single(place));
         }
-        name += 1;
+        place += 1;
     }
     names
 }
