@@ -1,5 +1,5 @@
 #!/usr/bin/env bash
-# Misuses that are no Rattle: each edit of tests/misuses, made to a copy of the host there, must be refused with the very error that it names.
+# Misuses that are no Rattle: each edit of tests/misuses, made to the host in tests/misuses/host.txt, must be refused with the very error that it names.
 # The two edits of tests/misuses/judge try the judge itself: one that compiles, and one that is refused for another reason.
 set -euo pipefail
 cd "$(dirname "$0")/.."
@@ -19,7 +19,7 @@ field() { sed -n "s/^$2: //p" "$1"; }
 judge() {
   local old new text rest first
   old=$(field "$1" old) new=$(field "$1" new)
-  text=$(< tests/misuses/host/src/lib.rt)
+  text=$(< tests/misuses/host.txt)
   rest=${text#*"$old"}
   [ "$rest" != "$text" ] && [ "${rest#*"$old"}" = "$rest" ] || { echo "the old text does not stand once"; return; }
   rm -rf "$copy/host"
