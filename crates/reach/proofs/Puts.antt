@@ -1,5 +1,5 @@
 -- A row of the table replaced by what it joins to.
-use mathlib.Core.Path.{_≡_, refl, sym, ap, _∙_}
+use mathlib.Core.Path.{_≡_, refl, sym, ap, ap₂, _∙_}
 use mathlib.Core.Bool.{Bool, true, false, _||_}
 use mathlib.Core.List.{List, []}
 use mathlib.Core.Logic.{_⊎_, inl, inr, _↔_}
@@ -16,6 +16,9 @@ use Rattle.reach.specs.declared.work.Work.{Work}
 use Rattle.reach.specs.Merging.{space, Joined}
 use Rattle.reach.specs.Table.{at, row-at, cell}
 use Rattle.reach.specs.Work.{Shaped, pending-at, Put}
+
+or-none : (a b : Bool) → a ≡ false → b ≡ false → (a || b) ≡ false
+or-none a b p q = ap₂ _||_ p q
 
 abbrev none : Row
 none = record { sets = [] }
@@ -54,12 +57,21 @@ module _
     | inr ne ↦ (sym (getD-set-other (w .pending) q p (pending-at w q || grew) false ne) ∙ h, λ e. absurd (ne e))
   ]
 
+  unmarked : (p : ℕ) → (p ≡ q → grew ≡ false) → pending-at w p ≡ false → pending-at replaced p ≡ false
+  unmarked p none h = elim (cases-eq p q) [
+    | inl e ↦
+        let flag : (pending-at w q || grew) ≡ false = or-none (pending-at w q) grew (rw e at h) (none e) in
+        ap (pending-at replaced) e ∙ getD-set-same (w .pending) q (pending-at w q || grew) false (omega (arith, sh .flags)) ∙ flag
+    | inr ne ↦ getD-set-other (w .pending) q p (pending-at w q || grew) false ne ∙ h
+  ]
+
   pub put-row : Put w replaced q from grew
   put-row = record {
     shape = record { rows = length-set rows q row ∙ sh .rows; flags = length-set (w .pending) q (pending-at w q || grew) ∙ sh .flags };
     gains = gained;
     elsewhere = elsewhere;
     marks = marked;
+    unmarked = unmarked;
     same = λ g. ap (λ rs. let x : ReachTable = record { rows = rs } in x) (ap (λ ss. set rows q (record { sets = ss })) (J .same g) ∙ set-getD rows q none);
     falls = λ g. omega (arith, J .falls g, sumBy-set (λ x. space (x .sets)) rows q row none (omega (arith, sh .rows)));
   }

@@ -1,19 +1,19 @@
 -- What reaches a point is passed on to its next points.
 use mathlib.Core.Path.{_≡_, sym, ap, _∙_}
-use mathlib.Core.Bool.{Bool, true, false}
+use mathlib.Core.Bool.{Bool, true, false, _||_}
 use mathlib.Core.Logic.{_⊎_, inl, inr, _↔_}
 use Prim.Native.Nat.{ℕ, _+_, _<_, _≤_}
 use native.Mathlib.Omega.{arith}
 use lib.ListN.{set}
-use Rattle.std.proofs.shelf.Lists.{getD-set-other}
-use Rattle.std.proofs.shelf.Tests.{cases-eq, cases-bool}
+use Rattle.std.proofs.shelf.Lists.{getD-set-same, getD-set-other}
+use Rattle.std.proofs.shelf.Tests.{cases-eq, cases-bool, or-cases, or-parts}
 use Rattle.levels.specs.Names.{Has}
 use Rattle.rules.specs.Routine.{Routine, node, Next}
 use Rattle.reach.specs.declared.table.Row.{Row}
 use Rattle.reach.specs.declared.table.ReachTable.{ReachTable}
 use Rattle.reach.specs.declared.work.Work.{Work}
 use Rattle.reach.specs.Table.{at, row-at, cell}
-use Rattle.reach.specs.Work.{room, pending-at, Passes, Put, Passed}
+use Rattle.reach.specs.Work.{room, Shaped, pending-at, Passes, Put, Passed}
 
 -- a row that was not put into, or that did not grow, is as it was
 kept-row : (old new : Work) (q : ℕ) (from : Row) (g : Bool) → Put old new q from g → (k : ℕ) → (k ≡ q → g ≡ false) → row-at (new .table) k ≡ row-at (old .table) k
@@ -22,20 +22,16 @@ kept-row old new q from g P k h = elim (cases-eq k q) [ inl e ↦ ap (λ t. row-
 no-room : (old new : Work) (q : ℕ) (from : Row) (g : Bool) → Put old new q from g → room (new .table) ≤ room (old .table)
 no-room old new q from g P = elim (cases-bool g) [ inl e ↦ omega (arith, P .falls e) | inr e ↦ omega (arith, ap room (P .same e)) ]
 
--- the lower of two points, where the second counts only under a flag
-pub record Lower (here point : ℕ) (flag : Bool) (r : ℕ) : Type 0 where
-  pub low : r ≤ here
-  pub back : flag ≡ true → r ≤ point
-  pub stays : flag ≡ false → r ≡ here
+-- a flag that tells whether a point that grew lies no further than p
+pub record Back (p to : ℕ) (grew flag : Bool) : Type 0 where
+  pub back : flag ≡ true → grew ≡ true
+  pub ahead : flag ≡ false → to ≤ p → grew ≡ false
 
-below-flag : (here point r k : ℕ) (flag : Bool) → Lower here point flag r → k < r → k ≡ point → flag ≡ false
-below-flag here point r k flag L l e = elim (cases-bool flag) [ inl t ↦ absurd (omega (arith, L .back t)) | inr f ↦ f ]
-
-module _ (r : Routine) (p : ℕ) (old mid new : Work) (q₁ q₂ n₁ n₂ : ℕ) (out : Row) (g₁ g₂ : Bool)
+module _ (r : Routine) (p : ℕ) (old mid new : Work) (q₁ q₂ : ℕ) (out : Row) (g₁ g₂ b₁ b₂ : Bool)
     (next : (q : ℕ) → (Next (node r p) p q ↔ ((q ≡ q₁) ⊎ (q ≡ q₂))))
     (flow : (name d : ℕ) → (Has (at out d) name ↔ Passes r (old .table) p name d))
     (P₁ : Put (record { table = old .table; pending = set (old .pending) p false }) mid q₁ out g₁) (P₂ : Put mid new q₂ out g₂)
-    (L₁ : Lower (p + 1) q₁ g₁ n₁) (L₂ : Lower n₁ q₂ g₂ n₂) where
+    (sh : Shaped old) (within : p < 129) (B₁ : Back p q₁ g₁ b₁) (B₂ : Back p q₂ g₂ b₂) where
   abbrev cleared : Work
   cleared = record { table = old .table; pending = set (old .pending) p false }
 
@@ -66,24 +62,28 @@ module _ (r : Routine) (p : ℕ) (old mid new : Work) (q₁ q₂ n₁ n₂ : ℕ
   second-falls : g₂ ≡ true → room (new .table) < room (old .table)
   second-falls e = omega (arith, P₂ .falls e, no-room cleared mid q₁ out g₁ P₁)
 
-  moves : (room (new .table) < room (old .table)) ⊎ ((room (new .table) ≡ room (old .table)) × (n₂ ≡ p + 1))
-  moves = elim (cases-bool g₁) [
-    | inl e ↦ inl (first-falls e)
-    | inr e ↦ elim (cases-bool g₂) [
-      | inl f ↦ inl (second-falls f)
-      | inr f ↦ inr (ap room (P₂ .same f ∙ P₁ .same e), L₂ .stays f ∙ L₁ .stays e)
-    ]
-  ]
+  both-fall : (b₁ || b₂) ≡ true → room (new .table) < room (old .table)
+  both-fall h = elim (or-cases b₁ b₂ h) [ inl e ↦ first-falls (B₁ .back e) | inr e ↦ second-falls (B₂ .back e) ]
 
-  pub passed : Passed r old new p n₂
+  stays-clean : (b₁ || b₂) ≡ false → (k : ℕ) → k ≤ p → (k ≡ p) ⊎ (pending-at old k ≡ false) → pending-at new k ≡ false
+  stays-clean h k l was =
+      let none = or-parts b₁ b₂ h in
+      let mid-clean : pending-at cleared k ≡ false =
+      elim (cases-eq k p) [
+        | inl e ↦ ap (pending-at cleared) e ∙ getD-set-same (old .pending) p false false (omega (arith, within, sh .flags))
+        | inr ne ↦ getD-set-other (old .pending) p k false false ne ∙ elim was [ inl e ↦ absurd (ne e) | inr c ↦ c ]
+      ] in
+      P₂ .unmarked k (λ e. B₂ .ahead (none .1) (omega arith)) (P₁ .unmarked k (λ e. B₁ .ahead (none .0) (omega arith)) mid-clean)
+
+  pub passed : Passed r old new p (b₁ || b₂)
   passed = record {
     shape = P₂ .shape;
     gains = λ q k name. (got q k name, gives q k name);
-    below = λ k l. rows-kept k (below-flag (p + 1) q₁ n₁ k g₁ L₁ (omega (arith, L₂ .low))) (below-flag n₁ q₂ n₂ k g₂ L₂ l);
     still = λ k h. let m₂ = P₂ .marks k h in let m₁ = P₁ .marks k (m₂ .0) in rows-kept k (m₁ .1) (m₂ .1);
     was-still = λ k h ne.
         let m₁ = P₁ .marks k (P₂ .marks k h .0) in
         sym (getD-set-other (old .pending) p k false false ne) ∙ m₁ .0;
-    back = omega (arith, L₁ .low, L₂ .low);
-    ahead = moves;
+    clean = stays-clean;
+    falls = both-fall;
+    less = omega (arith, no-room cleared mid q₁ out g₁ P₁, no-room mid new q₂ out g₂ P₂);
   }

@@ -11,7 +11,7 @@ use crate::reading::counts_of;
 use crate::table::ReachTable;
 use crate::table::Row;
 use crate::work::Work;
-use crate::work::go_on;
+use crate::work::sweep;
 use levels::NameSet;
 use listing::Routine;
 
@@ -54,9 +54,6 @@ pub fn reach(routine: &Routine) -> ReachTable
 {
     let counts = counts_of(routine);
     let mut work = started(counts.scalars as usize);
-    let mut point = 0;
-    while point < counts.nodes as usize {
-        point = go_on(routine, &mut work, point);
-    }
+    while sweep(routine, &mut work) {}
     work.table
 }

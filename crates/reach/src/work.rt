@@ -2,9 +2,9 @@
 
 ghost use mathlib.Core.Path.{_≡_};
 ghost use mathlib.Core.Bool.{true, false};
-ghost use Prim.Native.Nat.{_+_, _<_, _≤_};
+ghost use Prim.Native.Nat.{_<_, _≤_};
 ghost use Rattle.listing.specs.Forms.{routine-of};
-ghost use Rattle.reach.specs.Work.{Shaped, Put, Passed, Going, Went};
+ghost use Rattle.reach.specs.Work.{Shaped, Put, Passed, Going, Swept};
 use crate::merge::merge;
 use crate::next::next_points;
 use crate::passing::outgoing;
@@ -31,17 +31,8 @@ fn put(work: &mut Work, point: usize, from: &Row) -> bool
     grew
 }
 
-// The lower of two points, where the second counts only if it is pending again.
-fn lower(here: usize, point: usize, pending: bool) -> usize
-    ensures low { λ r. ⌜ r ≤ here ⌝ }
-    ensures back { λ r. ⌜ (pending ≡ true → r ≤ point) ⌝ }
-    ensures stays { λ r. ⌜ (pending ≡ false → r ≡ here) ⌝ }
-{
-    if pending && point < here { point } else { here }
-}
-
-// Passes on what reaches the point, and answers the point to go on from.
-fn pass_on(routine: &Routine, work: &mut Work, point: usize) -> usize
+// Passes on what reaches the point, and tells whether that or an earlier point is pending again.
+fn pass_on(routine: &Routine, work: &mut Work, point: usize) -> bool
     requires { ⌜ Shaped (now work) ⌝ ∗ ⌜ point < now routine .listing .counts .nodes ⌝ }
     ensures { λ r. ⌜ Passed (routine-of (now (routine .entry) .listing)) (now (work .entry)) (now (work .exit)) point r ⌝ }
 {
@@ -52,17 +43,28 @@ fn pass_on(routine: &Routine, work: &mut Work, point: usize) -> usize
     work.pending[point] = false;
     let first = put(work, next.first, &out);
     let second = put(work, next.second, &out);
-    lower(lower(point + 1, next.first, first), next.second, second)
+    is_back(point, next.first, first) | is_back(point, next.second, second)
 }
 
-// Passes on what reaches the point, if it is pending, and answers the point to go on from.
-pub(crate) fn go_on(routine: &Routine, work: &mut Work, point: usize) -> usize
-    requires { ⌜ Going (routine-of (now routine .listing)) (now work) point ⌝ ∗ ⌜ point < now routine .listing .counts .nodes ⌝ }
-    ensures { λ r. ⌜ Went (routine-of (now (routine .entry) .listing)) (now (work .entry)) (now (work .exit)) point r ⌝ }
+// Whether a point that is pending again lies no further than another.
+fn is_back(point: usize, to: usize, pending: bool) -> bool
+    ensures back { λ r. ⌜ (r ≡ true → pending ≡ true) ⌝ }
+    ensures ahead { λ r. ⌜ (r ≡ false → to ≤ point → pending ≡ false) ⌝ }
 {
-    if work.pending[point] {
-        pass_on(routine, work, point)
-    } else {
-        point + 1
+    pending & (to <= point)
+}
+
+// Passes on what reaches each pending point, and tells whether a point is pending again.
+pub(crate) fn sweep(routine: &Routine, work: &mut Work) -> bool
+    requires { ⌜ Going (routine-of (now routine .listing)) (now work) ⌝ }
+    ensures { λ r. ⌜ Swept (routine-of (now (routine .entry) .listing)) (now (work .entry)) (now (work .exit)) r ⌝ }
+{
+    let counts = counts_of(routine);
+    let mut again = false;
+    for point in 0..counts.nodes as usize {
+        if work.pending[point] {
+            again |= pass_on(routine, work, point);
+        }
     }
+    again
 }

@@ -1,16 +1,16 @@
-use mathlib.Core.Path.{ap, subst}
+use mathlib.Core.Path.{subst}
 use Prim.Native.Nat.{_≤_}
 use native.Mathlib.Omega.{arith}
 use Rattle.rules.specs.Routine.{end}
 use Rattle.listing.specs.Forms.{routine-of}
 use Rattle.listing.specs.declared.parts.Counts.{Counts}
-use Rattle.reach.specs.Work.{Started}
+use Rattle.reach.specs.Work.{Started, Swept}
 use Rattle.reach.proofs.Loaded.{limits-of, end-of}
 use Rattle.reach.proofs.Goings.{going-first, exact}
 use Rattle.reach.proofs.filling.reach.Needs as need
 
-pub loop-point-holds : need.loop-point-holds
-loop-point-holds c =
+pub loop-holds : need.loop-holds
+loop-holds c =
     let x = c .args .routine .now in
     let few : end (routine-of (x .listing)) ≤ 128 = rw (end-of x) (limits-of x .nodes) in
     going-first (routine-of (x .listing)) (c .started-work .result) few
@@ -18,7 +18,5 @@ loop-point-holds c =
 
 pub returns : need.returns
 returns c =
-    let x = c .args .routine .now in
-    let same = ap (λ (k : Counts). k .nodes) (c .counts-of-counts .ensures .is) in
-    let past : end (routine-of (x .listing)) ≤ c .loop-point .point = rw (end-of x) (omega (arith, same, c .loop-point-test .left)) in
-    exact (routine-of (x .listing)) (c .loop-point .work) (c .loop-point .point) past (c .loop-point .inv)
+    let r = routine-of (c .args .routine .now .listing) in
+    exact r (c .loop .work) (c .sweep .last .work) (subst (Swept r (c .loop .work) (c .sweep .last .work)) (c .loop-test .left) (c .sweep .ensures))

@@ -11,7 +11,7 @@ use Rattle.listing.specs.declared.parts.Counts.{Counts}
 use Rattle.reach.specs.Passing.{Flow}
 use Rattle.reach.specs.Table.{at, cell}
 use Rattle.reach.proofs.Loaded.{limits-of}
-use Rattle.reach.proofs.Steps.{Lower, passed}
+use Rattle.reach.proofs.Steps.{Back, passed}
 use Rattle.reach.proofs.work.pass_on.Needs as need
 
 pub put-first-requires : need.put-first-requires
@@ -47,8 +47,9 @@ returns c =
     let flow : (name d : ℕ) → (Has (at out d) name ↔ Flow (l .counts .scalars) (node r p) (λ k. Has (cell (old .table) p k) name) name d) =
     subst₂ (λ s n. (name d : ℕ) → (Has (at out d) name ↔ Flow s n (λ k. Has (cell (old .table) p k) name) name d))
     (ap (λ (k : Counts). k .scalars) (c .counts-of-counts .ensures .is)) (c .node-at-node .ensures .is) (c .outgoing-out .ensures) in
-    let low₁ = c .lower .ensures in
-    let low₂ = c .lower-2 .ensures in
-    passed r p old (c .put-first .last .work) (c .put-second .last .work) q₁ q₂ (c .lower .result) (c .lower-2 .result) out
-    (c .put-first .result) (c .put-second .result) next flow (c .put-first .ensures) (c .put-second .ensures)
-    (record { low = low₁ .low; back = low₁ .back; stays = low₁ .stays }) (record { low = low₂ .low; back = low₂ .back; stays = low₂ .stays })
+    let x = c .args .routine .now in
+    let b₁ = c .is-back .ensures in
+    let b₂ = c .is-back-2 .ensures in
+    passed r p old (c .put-first .last .work) (c .put-second .last .work) q₁ q₂ out (c .put-first .result) (c .put-second .result)
+    (c .is-back .result) (c .is-back-2 .result) next flow (c .put-first .ensures) (c .put-second .ensures) (c .pre .0)
+    (omega (arith, c .pre .1, limits-of x .nodes)) (record { back = b₁ .back; ahead = b₁ .ahead }) (record { back = b₂ .back; ahead = b₂ .ahead })
