@@ -3,6 +3,8 @@
 mod call;
 mod pair;
 mod perform;
+#[cfg(test)]
+mod tests;
 mod trying;
 
 pub use call::Answer;
