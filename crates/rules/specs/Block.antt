@@ -2,13 +2,9 @@
 use Prim.Native.Nat.{ℕ, suc, _+_, _<_}
 use mathlib.Core.Path.{_≡_}
 use mathlib.Core.List.{List}
-use lib.ListN.{getD}
+use Rattle.rules.specs.Routine.{node-in}
 use Rattle.rules.specs.declared.Node.{Node}
 use Rattle.rules.specs.declared.Node.the-variants.{Constant, Move, Operate, Select, Read, Write, If, Else, EndIf, While, EndWhile}
-
--- Node p of a list of nodes.
-abbrev pub node-in : List Node → ℕ → Node
-node-in ns p = getD ns p (Constant 0 0)
 
 -- A node that is a statement by itself.
 abbrev pub Plain : Node → Type 0

@@ -21,6 +21,10 @@ zeroed = record { scalars = replicate 24 0; cells = replicate 512 0 }
 abbrev pub of-line : LeakLine → Line
 of-line x = record { at = x .node; mark = x .mark }
 
+-- A leak line of the rules, as it is written.
+abbrev pub leak-line : Line → LeakLine
+leak-line x = record { node = x .at; mark = x .mark }
+
 abbrev pub of-place : Place → Name
 of-place (place.Scalar k) = Scalar k
 of-place (place.Element t i) = Element t i

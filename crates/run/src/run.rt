@@ -22,7 +22,7 @@ pub struct Run<'a, M: LeakageModel> {
 }
 
 /// The promise that a run's memory will be wiped: `start` hands one out, and `close` alone spends it. One that is not spent cannot be let
-/// go.
+/// go, so there is one close for each start; a ticket does not say of which run it is.
 pub struct WipeTicket {
     spent: bool,
 }

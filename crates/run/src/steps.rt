@@ -1,7 +1,10 @@
 //! One step of a routine.
 
 ghost use mathlib.Core.Path.{_≡_};
+ghost use mathlib.Core.Bool.{cond};
 ghost use Prim.Native.Nat.{ℕ, _<_, _≤_};
+ghost use lib.Dec.{eqb};
+ghost use Rattle.rules.specs.declared.Node.the-variants.{Read, Write};
 ghost use Rattle.rules.specs.Routine.{Accepted, Next, Operands-exist, region};
 ghost use Rattle.rules.specs.Run.{result, counted, place, memory-after, point-after, mark};
 ghost use Rattle.listing.specs.Forms.{routine-of};
@@ -51,6 +54,31 @@ fn cell_of(routine: &Routine, array: u32, index: u32) -> usize
     (region.start + counted_of(region, index)) as usize
 }
 
+// The one of two scalars that a condition picks.
+fn picked(condition: u32, then: u32, otherwise: u32) -> u32
+    ensures { λ r. ⌜ r ≡ cond (eqb condition 0) otherwise then ⌝ }
+{
+    if condition == 0 { otherwise } else { then }
+}
+
+// The memory after a read.
+fn read_into(routine: &Routine, target: u32, array: u32, index: u32, memory: &mut Memory)
+    requires { ⌜ Operands-exist 24 (now routine .listing .counts .arrays) (Read target array index) ⌝ }
+    ensures { λ _. ⌜ of-memory (now (memory .exit)) ≡ memory-after (routine-of (now (routine .entry) .listing)) (Read target array index) (of-memory (now (memory .entry))) ⌝ }
+{
+    let cell = cell_of(routine, array, memory.scalars[index as usize]);
+    memory.scalars[target as usize] = memory.cells[cell];
+}
+
+// The memory after a write.
+fn write_from(routine: &Routine, array: u32, index: u32, value: u32, memory: &mut Memory)
+    requires { ⌜ Operands-exist 24 (now routine .listing .counts .arrays) (Write array index value) ⌝ }
+    ensures { λ _. ⌜ of-memory (now (memory .exit)) ≡ memory-after (routine-of (now (routine .entry) .listing)) (Write array index value) (of-memory (now (memory .entry))) ⌝ }
+{
+    let cell = cell_of(routine, array, memory.scalars[index as usize]);
+    memory.cells[cell] = memory.scalars[value as usize];
+}
+
 // The memory after a node.
 pub(crate) fn step_memory(routine: &Routine, node: Node, memory: &mut Memory)
     requires { ⌜ Operands-exist 24 (now routine .listing .counts .arrays) node ⌝ }
@@ -77,29 +105,19 @@ pub(crate) fn step_memory(routine: &Routine, node: Node, memory: &mut Memory)
             then,
             otherwise,
         } => {
-            let chosen = if scalars[condition as usize] == 0 {
-                otherwise
-            } else {
-                then
-            };
+            let chosen = picked(scalars[condition as usize], then, otherwise);
             scalars[target as usize] = scalars[chosen as usize];
         }
         Node::Read {
             target,
             array,
             index,
-        } => {
-            let cell = cell_of(routine, array, scalars[index as usize]);
-            scalars[target as usize] = memory.cells[cell];
-        }
+        } => read_into(routine, target, array, index, memory),
         Node::Write {
             array,
             index,
             value,
-        } => {
-            let cell = cell_of(routine, array, scalars[index as usize]);
-            memory.cells[cell] = scalars[value as usize];
-        }
+        } => write_from(routine, array, index, value, memory),
         _ => {}
     }
 }

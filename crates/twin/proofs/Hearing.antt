@@ -20,8 +20,8 @@ use Rattle.run.specs.declared.memory.Memory.{Memory}
 use Rattle.twin.specs.declared.call.Call.{Call}
 use Rattle.twin.specs.declared.call.Call.the-variants.{Advance, Feed, Ask}
 use Rattle.twin.specs.declared.call.Answer.{Answer}
-use Rattle.run.specs.Views.{of-line, of-place}
-use Rattle.twin.specs.Logs.{of-call, told, lines-in, leak-line, overwritten, laid, places, all-places, heard, has-room, journal, Logged}
+use Rattle.run.specs.Views.{of-line, of-place, leak-line}
+use Rattle.twin.specs.Logs.{of-call, told, lines-in, overwritten, laid, places, all-places, heard, has-room, journal, Logged}
 use Rattle.twin.proofs.Along.{said-as, sayings, trace-of, Along, all-answered, all-laid}
 
 -- An answer without lines is read back as it was.

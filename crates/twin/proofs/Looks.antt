@@ -33,7 +33,7 @@ use Rattle.twin.specs.declared.pair.Pair.{Pair}
 use Rattle.twin.specs.declared.pair.Declined.{Declined}
 use Rattle.twin.specs.declared.pair.Reason.{Reason}
 use Rattle.twin.specs.declared.pair.Reason.the-variants.{Room, Clear}
-use Rattle.twin.specs.declared.trying.Wiped.{Wiped}
+use Rattle.twin.specs.declared.pair.Memories.{Memories}
 use Rattle.twin.specs.Logs.{Journal, of-call, start-of, stop-of, Logged}
 use Rattle.twin.specs.Twins.{Same-look, Look-alike, Logged-by-rules, Kept, Ran, Tried, Declined-for, Declined-by, Both-open, Paired, scene-in, both-room}
 use Rattle.twin.proofs.Telling.{same-opens, logged-same}
@@ -85,53 +85,12 @@ module _ {L M : Type 0} (o : Order L) (w : M → Leakage) (levels : List L) (lis
         agree = subst₂ (λ u v. Agree C (u .point) (u .memory) (v .memory)) (sym at) (sym at′) (out .agree);
       }
 
--- What clear refuses is the refusal of the rules.
-module _ {L : Type 0} (x : Scene L) (j k : Journal) (room : both-room j k ≡ true) where
-  abbrev Said : Option ClearFault → Type 0
-  Said None = Unit {0}
-  Said (Some f) = Declined-for x j k (Clear f)
-
-  abbrev Is-some : Option ClearFault → Type 0
-  Is-some None = ⊥
-  Is-some (Some f) = Unit {0}
-
-  abbrev is-length : Outcome → Bool
-  is-length outcome.Granted = false
-  is-length outcome.TableLength = true
-  is-length (outcome.Leak s) = false
-
-  refused-so :
-      (out : Outcome) (f : ClearFault)
-      → ((Fitting x → ⊥) → out ≡ outcome.TableLength)
-      → (Fitting x → Right-outcome (setting x) out)
-      → fault-of out ≡ Some f
-      → Declined-for x j k (Clear f)
-  refused-so outcome.Granted f wrong right h = absurd (subst Is-some (sym h) tt)
-  refused-so outcome.TableLength f wrong right h = subst Said h (room, λ fit. right fit)
-  refused-so (outcome.Leak s) f wrong right h =
-      elim (cases-eq (length (x .levels)) (x .listing .counts .scalars + x .listing .counts .arrays)) [
-        | inl fit ↦ subst Said h (room, fit, right fit)
-        | inr no-fit ↦ absurd (both-ways false refl (ap is-length (wrong no-fit)))
-      ]
-
 module _ {L M : Type 0} (o : Order L) (w : M → Leakage) (levels : List L) (listener : L) (e : Examination M) (j k : Journal)
     (routine : Routine) (model : M) (keeps : (e .routine ≡ routine) × (e .model ≡ model))
     (E : Examined (scene o (w model) (routine .listing) levels listener) e) where
-  declined-own : Examined (scene-in o w levels listener e) e → (why : Reason) → Declined-by e j k why → Declined-for (scene-in o w levels listener e) j k why
-  declined-own E′ Room h = h
-  declined-own E′ (Clear f) h =
-      refused-so (scene-in o w levels listener e) j k (h .0) (e .outcome) f (λ n. E′ .wrong-length n .0) (λ fit. E′ .right-outcome fit) (h .1)
-
-  -- Where no run was begun.
-  pub declined : (d : Declined) → Declined-by e j k (d .reason) × Kept j k d → Tried (scene o (w model) (routine .listing) levels listener) j k (Err d)
-  declined d h =
-      let P : Routine → M → Type 0 =
-      λ r m. Examined (scene o (w m) (r .listing) levels listener) e → Declined-for (scene o (w m) (r .listing) levels listener) j k (d .reason) in
-      (subst₂ P (keeps .0) (keeps .1) (λ E′. declined-own E′ (d .reason) (h .0)) E, h .1)
-
   -- Where both lists were made, and both runs are closed.
   pub tried :
-      (p : Pair M) (wiped : Wiped)
+      (p : Pair M) (wiped : Memories)
       → Both-open o w levels listener e j k p
       → wiped .first ≡ zeroed
       → wiped .second ≡ zeroed

@@ -14,9 +14,9 @@ use Rattle.twin.specs.declared.call.Call.{Call}
 use Rattle.twin.specs.declared.call.Call.the-variants as call
 use Rattle.run.specs.declared.memory.LeakLine.{LeakLine}
 use Rattle.run.specs.declared.memory.Advanced.{Advanced as Answered}
-use Rattle.run.specs.Views.{of-line}
+use Rattle.run.specs.Views.{of-line, leak-line}
 use Rattle.run.specs.Runs.{advanced}
-use Rattle.twin.specs.Logs.{of-call, places, lines-in, leak-line, overwritten}
+use Rattle.twin.specs.Logs.{of-call, places, lines-in, overwritten}
 
 lines-back : (ys : List LeakLine) → map leak-line (map of-line ys) ≡ ys
 lines-back [] = refl

@@ -6,7 +6,7 @@ use Prim.Native.Nat.{ℕ, _+_}
 use lib.Dec.{leb}
 use lib.ListN.{take, drop, length}
 use Rattle.rules.specs.Routine.{Routine}
-use Rattle.rules.specs.Run.{Terms, Line, Run, started, reply, after, replies, after-all}
+use Rattle.rules.specs.Run.{Terms, Run, started, reply, after, replies, after-all}
 use Rattle.rules.specs.Run.{Call as Rules-call, Answer as Rules-answer}
 use Rattle.rules.specs.Run.Call.{Advance, Feed, Ask}
 use Rattle.rules.specs.Run.Answer.{Advanced, Granted, Told}
@@ -15,7 +15,7 @@ use Rattle.listing.specs.declared.parts.Listing.{Listing}
 use Rattle.listing.specs.Forms.{routine-of}
 use Rattle.run.specs.declared.memory.LeakLine.{LeakLine}
 use Rattle.run.specs.declared.memory.Memory.{Memory}
-use Rattle.run.specs.Views.{of-memory, of-place, of-fault}
+use Rattle.run.specs.Views.{of-memory, of-place, of-fault, leak-line}
 use Rattle.run.specs.Runs.{advanced}
 use Rattle.twin.specs.declared.call.Call.{Call}
 use Rattle.twin.specs.declared.call.Call.the-variants as call
@@ -53,9 +53,6 @@ unfoldable pub heard : List Call → List Answer → List LeakLine → List Rule
 heard [] said xs = []
 heard (c ∷ cs) [] xs = []
 heard (c ∷ cs) (a ∷ said) xs = told a (take (places c) xs) ∷ heard cs said (drop (places c) xs)
-
-abbrev pub leak-line : Line → LeakLine
-leak-line x = record { node = x .at; mark = x .mark }
 
 -- The leak lines of an answer, as they are written.
 abbrev pub lines-in : Rules-answer → List LeakLine

@@ -19,10 +19,10 @@ use Rattle.clearance.specs.Examinations.{Examined}
 use Rattle.run.specs.Views.{of-memory, zeroed}
 use Rattle.run.specs.Runs.{terms-of, state-of}
 use Rattle.twin.specs.declared.pair.Pair.{Pair}
+use Rattle.twin.specs.declared.pair.Memories.{Memories}
 use Rattle.twin.specs.declared.pair.Declined.{Declined}
 use Rattle.twin.specs.declared.pair.Reason.{Reason}
 use Rattle.twin.specs.declared.pair.Reason.the-variants.{Room, Clear}
-use Rattle.twin.specs.declared.trying.Wiped.{Wiped}
 use Rattle.twin.specs.Logs.{Journal, of-call, room-in, heard-in, start-of, stop-of, Untouched, Logged}
 
 -- Both logs have room.
@@ -51,15 +51,15 @@ pub record Logged-by-rules {L : Type 0} (c : Setting L) (j : Journal) : Type 0 w
 
 -- No run was begun: the memories are given back as they were, and both logs hold what they held.
 pub record Kept (j k : Journal) (d : Declined) : Type 0 where
-  pub first-memory : d .first ≡ j .memory
-  pub second-memory : d .second ≡ k .memory
+  pub first-memory : d .memories .first ≡ j .memory
+  pub second-memory : d .memories .second ≡ k .memory
   pub first-log : Untouched j
   pub second-log : Untouched k
 
 module _ {L : Type 0} (x : Scene L) (j k : Journal) where
   -- Both lists were made: there was room, the table fits, and some typing table meets the rules. Both logs are right, the guarantee holds, and
   -- both memories are given back with zero in every scalar and cell.
-  pub record Ran (w : Wiped) : Type 0 where
+  pub record Ran (w : Memories) : Type 0 where
     pub room : both-room j k ≡ true
     pub fits : Fitting x
     pub cleared : Cleared (setting x)
@@ -77,7 +77,7 @@ module _ {L : Type 0} (x : Scene L) (j k : Journal) where
       (both-room j k ≡ true) × Fitting x × Leak (setting x) (s .node) (s .operand) (s .bound) (s .name)
 
   -- What a trial promises.
-  abbrev pub Tried : Result Wiped Declined → Type 0
+  abbrev pub Tried : Result Memories Declined → Type 0
   Tried (Ok w) = Ran w
   Tried (Err d) = Declined-for (d .reason) × Kept j k d
 

@@ -3,15 +3,17 @@
 mod call;
 mod pair;
 mod perform;
+#[cfg(test)]
+mod tests;
 mod trying;
 
 pub use call::Answer;
 pub use call::Call;
 pub use call::Log;
 pub use pair::Declined;
+pub use pair::Memories;
 pub use pair::Open;
 pub use pair::Pair;
 pub use pair::Reason;
 pub use pair::both;
-pub use trying::Wiped;
 pub use trying::trial;

@@ -1,8 +1,11 @@
 //! Two runs of one examination, side by side.
 
 ghost use mathlib.Core.Path.{_≡_};
-ghost use mathlib.Core.Bool.{true};
+ghost use mathlib.Core.Bool.{true, _&&_};
+ghost use Rattle.std.specs.Results.{Cases};
+ghost use Rattle.std.specs.declared.option.Option.the-variants.{Some};
 ghost use Rattle.rules.specs.Run.{started};
+ghost use Rattle.clearance.specs.Outcomes.{is-granted, fault-of};
 ghost use Rattle.run.specs.Views.{of-memory};
 ghost use Rattle.run.specs.Runs.{terms-of, state-of};
 ghost use Rattle.twin.specs.Logs.{has-room, journal, start-of, stop-of, Logged};
@@ -45,11 +48,30 @@ pub enum Reason {
     Clear(ClearFault),
 }
 
-/// Why no run was begun, with the two memories as they were given.
-pub struct Declined {
-    pub reason: Reason,
+/// The memories of two runs.
+pub struct Memories {
     pub first: Memory,
     pub second: Memory,
+}
+
+/// Why no run was begun, with the memories as they were given.
+pub struct Declined {
+    pub reason: Reason,
+    pub memories: Memories,
+}
+
+// Two clearances on one examination.
+struct Cleared<'a, M: LeakageModel> {
+    first: Clearance<'a, M>,
+    second: Clearance<'a, M>,
+}
+
+fn clear_twice<M: LeakageModel>(exam: &Examination<M>) -> Result<Cleared<'_, M>, ClearFault>
+    ensures { λ r. ⌜ Cases r (λ c. (now (c .first .exam) ≡ now (exam .entry)) × (now (c .second .exam) ≡ now (exam .entry)) × (is-granted (now (exam .entry) .outcome) ≡ true)) (λ f. fault-of (now (exam .entry) .outcome) ≡ Some f) ⌝ }
+{
+    let first = clear(exam)?;
+    let second = clear(exam)?;
+    Ok(Cleared { first, second })
 }
 
 // Starts a run and makes the calls in their order.
@@ -63,11 +85,51 @@ fn run_list<'a, M: LeakageModel>(
     requires { ⌜ has-room (now calls) (now answers) (now lines) ≡ true ⌝ }
     ensures logged { λ r. ⌜ Logged (terms-of leakage (now (clearance .entry .exam))) (started (of-memory memory)) (journal memory (now (calls .entry)) (now (answers .entry)) (now (answers .exit)) (now (lines .entry)) (now (lines .exit))) ⌝ }
     ensures state { λ r. ⌜ state-of (r .run) ≡ stop-of (now (clearance .entry .exam) .routine .listing) (journal memory (now (calls .entry)) (now (answers .entry)) (now (answers .exit)) (now (lines .entry)) (now (lines .exit))) ⌝ }
-    ensures exam { λ r. ⌜ now (r .run .exam) ≡ now (clearance .entry .exam) ⌝ }
 {
     let (mut run, ticket) = start(clearance, memory);
     perform(&mut run, calls, answers, lines);
     Open { run, ticket }
+}
+
+// Whether both logs have room.
+fn room_for_both(
+    calls: &[Call],
+    answers: &[Answer],
+    lines: &[LeakLine],
+    others: &[Call],
+    replies: &[Answer],
+    traces: &[LeakLine],
+) -> bool
+    ensures { λ r. ⌜ r ≡ has-room (now (calls .entry)) (now (answers .entry)) (now (lines .entry)) && has-room (now (others .entry)) (now (replies .entry)) (now (traces .entry)) ⌝ }
+{
+    enough_room(calls, answers, lines) & enough_room(others, replies, traces)
+}
+
+// Starts two runs, and makes the calls of each list in its own run.
+fn run_both<'a, M: LeakageModel>(
+    cleared: Cleared<'a, M>,
+    memories: Memories,
+    calls: &[Call],
+    others: &[Call],
+    answers: &mut [Answer],
+    lines: &mut [LeakLine],
+    replies: &mut [Answer],
+    traces: &mut [LeakLine],
+) -> Pair<'a, M>
+    requires { ⌜ has-room (now calls) (now answers) (now lines) && has-room (now others) (now replies) (now traces) ≡ true ⌝ }
+    ensures first { λ r. ⌜ Logged (terms-of leakage (now (cleared .entry .first .exam))) (started (of-memory (memories .first))) (journal (memories .first) (now (calls .entry)) (now (answers .entry)) (now (answers .exit)) (now (lines .entry)) (now (lines .exit))) ⌝ }
+    ensures second { λ r. ⌜ Logged (terms-of leakage (now (cleared .entry .second .exam))) (started (of-memory (memories .second))) (journal (memories .second) (now (others .entry)) (now (replies .entry)) (now (replies .exit)) (now (traces .entry)) (now (traces .exit))) ⌝ }
+    ensures state { λ r. ⌜ state-of (r .first .run) ≡ stop-of (now (cleared .entry .first .exam) .routine .listing) (journal (memories .first) (now (calls .entry)) (now (answers .entry)) (now (answers .exit)) (now (lines .entry)) (now (lines .exit))) ⌝ }
+    ensures other { λ r. ⌜ state-of (r .second .run) ≡ stop-of (now (cleared .entry .second .exam) .routine .listing) (journal (memories .second) (now (others .entry)) (now (replies .entry)) (now (replies .exit)) (now (traces .entry)) (now (traces .exit))) ⌝ }
+{
+    let Cleared {
+        first: one,
+        second: two,
+    } = cleared;
+    let Memories { first, second } = memories;
+    let first = run_list(one, first, calls, answers, lines);
+    let second = run_list(two, second, others, replies, traces);
+    Pair { first, second }
 }
 
 /// Makes two lists of calls in two runs of one examination, each in its own memory and with its own log, and hands the runs back open. The
@@ -76,14 +138,13 @@ pub fn both<'a, L: Level, M: LeakageModel>(
     exam: &'a Examination<M>,
     levels: &[L],
     listener: L,
-    first: Memory,
-    second: Memory,
+    memories: Memories,
     calls: &[Call],
     others: &[Call],
     log: Log<'_>,
     copy: Log<'_>,
 ) -> Result<Pair<'a, M>, Declined>
-    ensures { λ r. ⌜ Paired (L·Level .order) (M·LeakageModel .leakage) (now (levels .entry)) listener (now (exam .entry)) (journal first (now (calls .entry)) (now (log .entry .answers)) (now (log .exit .0)) (now (log .entry .lines)) (now (log .exit .1 .0))) (journal second (now (others .entry)) (now (copy .entry .answers)) (now (copy .exit .0)) (now (copy .entry .lines)) (now (copy .exit .1 .0))) r ⌝ }
+    ensures { λ r. ⌜ Paired (L·Level .order) (M·LeakageModel .leakage) (now (levels .entry)) listener (now (exam .entry)) (journal (memories .first) (now (calls .entry)) (now (log .entry .answers)) (now (log .exit .0)) (now (log .entry .lines)) (now (log .exit .1 .0))) (journal (memories .second) (now (others .entry)) (now (copy .entry .answers)) (now (copy .exit .0)) (now (copy .entry .lines)) (now (copy .exit .1 .0))) r ⌝ }
 {
     let _ = levels;
     let _ = listener;
@@ -92,31 +153,27 @@ pub fn both<'a, L: Level, M: LeakageModel>(
         answers: replies,
         lines: traces,
     } = copy;
-    let room = enough_room(calls, answers, lines) & enough_room(others, replies, traces);
-    if !room {
+    if !room_for_both(calls, answers, lines, others, replies, traces) {
         return Err(Declined {
             reason: Reason::Room,
-            first,
-            second,
+            memories,
         });
     }
-    let one = match clear(exam) {
-        Ok(clearance) => clearance,
+    let cleared = match clear_twice(exam) {
+        Ok(cleared) => cleared,
         Err(fault) => return Err(Declined {
             reason: Reason::Clear(fault),
-            first,
-            second,
+            memories,
         }),
     };
-    let two = match clear(exam) {
-        Ok(clearance) => clearance,
-        Err(fault) => return Err(Declined {
-            reason: Reason::Clear(fault),
-            first,
-            second,
-        }),
-    };
-    let first = run_list(one, first, calls, answers, lines);
-    let second = run_list(two, second, others, replies, traces);
-    Ok(Pair { first, second })
+    Ok(run_both(
+        cleared,
+        memories,
+        calls,
+        others,
+        answers,
+        lines,
+        replies,
+        traces,
+    ))
 }

@@ -45,8 +45,8 @@ impl<M: LeakageModel> Run<'_, M> {
         ensures state { λ _. ⌜ state-of (now (self .exit)) ≡ state-past (now (self .entry)) (Feed (of-place place) value) ⌝ }
         ensures exam { λ _. ⌜ now (now (self .exit) .exam) ≡ now (now (self .entry) .exam) ⌝ }
     {
-        let slot = locate(self.exam.routine(), place)?;
-        write(slot, value, &mut self.memory);
+        let target = locate(self.exam.routine(), place)?;
+        write(target, value, &mut self.memory);
         Ok(())
     }
 }

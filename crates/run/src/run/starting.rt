@@ -30,7 +30,8 @@ pub fn start<'a, M: LeakageModel>(
     (run, WipeTicket { spent: false })
 }
 
-/// Ends the run, spends the ticket, and gives the memory back with zero in every scalar and every cell.
+/// Ends the run, spends the ticket, and gives the memory back with zero in every scalar and every cell. Nothing is said of bytes that moving
+/// a memory may have left elsewhere.
 pub fn close<M: LeakageModel>(run: Run<'_, M>, mut ticket: WipeTicket) -> Memory
     ensures { λ r. ⌜ r ≡ zeroed ⌝ }
 {

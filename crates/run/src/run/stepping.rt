@@ -4,12 +4,12 @@ ghost use mathlib.Core.Path.{_≡_};
 ghost use mathlib.Core.Bool.{true, false, not};
 ghost use Prim.Native.Nat.{_<_};
 ghost use lib.Dec.{eqb, ltb};
-ghost use lib.ListN.{length, drop};
+ghost use lib.ListN.{length, drop, set};
 ghost use Rattle.rules.specs.Routine.{end};
 ghost use Rattle.rules.specs.Run.{line, step};
 ghost use Rattle.rules.specs.Run.Call.{Advance};
 ghost use Rattle.listing.specs.Forms.{routine-of};
-ghost use Rattle.run.specs.Views.{of-line};
+ghost use Rattle.run.specs.Views.{leak-line};
 ghost use Rattle.run.specs.Runs.{terms-in, state-of, answer-to, state-past, advanced};
 use super::Run;
 use crate::memory::Advanced;
@@ -29,10 +29,10 @@ impl<M: LeakageModel> Run<'_, M> {
         self.point == self.exam.routine().listing().counts.nodes
     }
 
-    // One step, with its leak line.
-    fn step(&mut self) -> LeakLine
-        requires { ⌜ now self .point < end (routine-of (now (now self .exam) .routine .listing)) ⌝ }
-        ensures line { λ r. ⌜ of-line r ≡ line (terms-in leakage (now (self .entry)) .model) (terms-in leakage (now (self .entry)) .routine) (state-of (now (self .entry))) ⌝ }
+    // One step, whose leak line is written into the place.
+    fn step(&mut self, lines: &mut [LeakLine], place: usize)
+        requires { ⌜ now self .point < end (routine-of (now (now self .exam) .routine .listing)) ⌝ ∗ ⌜ place < length (now lines) ⌝ }
+        ensures line { λ _. ⌜ now (lines .exit) ≡ set (now (lines .entry)) place (leak-line (line (terms-in leakage (now (self .entry)) .model) (terms-in leakage (now (self .entry)) .routine) (state-of (now (self .entry))))) ⌝ }
         ensures state { λ _. ⌜ state-of (now (self .exit)) ≡ step (terms-in leakage (now (self .entry)) .routine) (state-of (now (self .entry))) ⌝ }
         ensures exam { λ _. ⌜ now (now (self .exit) .exam) ≡ now (now (self .entry) .exam) ⌝ }
     {
@@ -42,7 +42,18 @@ impl<M: LeakageModel> Run<'_, M> {
         let mark = mark_of(self.exam.model(), routine, node, &self.memory);
         self.point = step_point(node, point, &self.memory);
         step_memory(routine, node, &mut self.memory);
-        LeakLine { node: point, mark }
+        lines[place] = LeakLine { node: point, mark };
+    }
+
+    // What advance answers where the run stands now.
+    fn report(&self, count: usize) -> Advanced
+        ensures count { λ r. ⌜ r .count ≡ count ⌝ }
+        ensures ended { λ r. ⌜ r .«at_end» ≡ eqb (now (self .entry) .point) (end (routine-of (now (now (self .entry) .exam) .routine .listing))) ⌝ }
+    {
+        Advanced {
+            count,
+            at_end: self.at_end(),
+        }
     }
 
     /// One step for each place of `lines`, until the places or the routine end. Places past the count are left as they were.
@@ -54,12 +65,9 @@ impl<M: LeakageModel> Run<'_, M> {
     {
         let mut count = 0;
         while count < lines.len() && !self.at_end() {
-            lines[count] = self.step();
+            self.step(lines, count);
             count += 1;
         }
-        Advanced {
-            count,
-            at_end: self.at_end(),
-        }
+        self.report(count)
     }
 }

@@ -5,7 +5,7 @@ use lib.ListN.{length}
 use native.Mathlib.Omega.{arith}
 use Rattle.rules.specs.Routine.{end}
 use Rattle.run.specs.Runs.{terms-of, terms-in}
-use Rattle.run.proofs.Turns.{turn, halts, all-stands, all-answered}
+use Rattle.run.proofs.Turns.{turn, halts, all-stands, all-answered, all-rest}
 use Rattle.run.proofs.run.Run.advance.Needs as need
 use Rattle.run.proofs.run.Run.advance.Needs.{then-loop-count-test·else-not-at-end, else-loop-count-test}
 
@@ -31,8 +31,8 @@ returns g c =
       | else-loop-count-test w ↦ inl (omega (arith, w .loop-count-test .left))
     ] in
     record {
-      answer = all-answered x _ _ _ _ _ (inv .1) over y _ same (c .at-end-2 .ensures .ended);
-      rest = inv .1 .rest;
+      answer = all-answered x _ _ _ _ _ (inv .1) over y _ same (c .report .ensures .count) (c .report .ensures .ended);
+      rest = all-rest x _ _ _ _ _ (inv .1) over _ (c .report .ensures .count);
       state = all-stands x _ _ _ _ _ (inv .1) over;
       exam = inv .0;
     }

@@ -1,0 +1,3 @@
+mod Digit
+mod Parts
+mod Pieces

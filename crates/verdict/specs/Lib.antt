@@ -1,0 +1,4 @@
+pub mod Digits
+pub mod Slips
+pub mod Verdicts
+pub mod Inputs
