@@ -1,17 +1,16 @@
 -- The turns of advance's loop, and what it answers at its end.
-use mathlib.Core.Path.{_≡_, refl, sym, ap, ap₂, _∙_, subst}
+use mathlib.Core.Path.{_≡_, sym, ap, _∙_, subst}
 use mathlib.Core.Bool.{Bool, true, false, not}
 use mathlib.Core.List.{List, map}
-use mathlib.Core.Logic.{_⊎_, inl, inr}
+use mathlib.Core.Logic.{_⊎_, inr}
 use Prim.Native.Nat.{ℕ, _+_, _<_, _≤_}
 use native.Mathlib.Omega.{arith}
 use lib.Dec.{eqb, ltb}
 use lib.ListN.{length, take, drop, set}
 use Rattle.std.proofs.shelf.Tests.{ltb-true, ltb-false}
 use Rattle.std.proofs.shelf.Lists.{length-take-le, length-map}
-use Rattle.rules.specs.Leakage.{Leakage}
 use Rattle.rules.specs.Routine.{end}
-use Rattle.rules.specs.Run.{Terms, Line, Run, line, step, lines-of, run-of, reply}
+use Rattle.rules.specs.Run.{Terms, Run, line, step, lines-of, run-of, reply}
 use Rattle.rules.specs.Run.Call.{Advance}
 use Rattle.rules.specs.Run.Answer.{Advanced}
 use Rattle.rules.proofs.Loops.{Written, written-more, written-all}

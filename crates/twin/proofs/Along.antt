@@ -1,17 +1,17 @@
 -- What performing a list of calls has done after i of them.
 use mathlib.Core.Path.{_≡_, refl, sym, ap, subst, _∙_}
 use mathlib.Core.Bool.{cond}
-use mathlib.Core.List.{List, [], _∷_, _++_, append-assoc, map}
-use Prim.Native.Nat.{ℕ, zero, suc, _+_, _-_, _<_, _≤_}
+use mathlib.Core.List.{List, [], _∷_, _++_, append-assoc}
+use Prim.Native.Nat.{ℕ, _+_, _-_, _<_, _≤_}
 use native.Mathlib.Omega.{arith}
 use native.Mathlib.Numerals.{unary-clauses}
 use lib.Dec.{eqb}
 use lib.ListN.{length, take, drop, set, getD, length-set, take-append-drop, length-append, length-drop}
-use Rattle.std.proofs.shelf.Lists.{take-more-set, drop-set-lt, drop-all, drop-drop, drop-more, append-nil, take-all, length-take-le}
+use Rattle.std.proofs.shelf.Lists.{take-more-set, drop-set-lt, drop-all, drop-drop, drop-more, append-nil, length-take-le}
 use Rattle.std.proofs.shelf.Parts.{take-putMid, drop-putMid}
 use borrow.Rule.Slice.PartMut.{putMid}
 use Rattle.rules.specs.Run.{Terms, Run, reply, after}
-use Rattle.rules.specs.Run.{Answer as Rules-answer, Refusal as Rules-refusal}
+use Rattle.rules.specs.Run.{Answer as Rules-answer}
 use Rattle.rules.specs.Run.Answer.{Advanced, Granted, Told}
 use Rattle.rules.specs.Run.Answer.{Refused as Refused-so}
 use Rattle.run.specs.declared.memory.LeakLine.{LeakLine}

@@ -1,41 +1,29 @@
 -- From the rules' two runs to what both and trial promise.
-use mathlib.Core.Path.{_≡_, refl, sym, ap, subst, subst₂, _∙_}
-use mathlib.Core.Bool.{Bool, true, false}
+use mathlib.Core.Path.{_≡_, sym, ap, subst₂, _∙_}
+use mathlib.Core.Bool.{true}
 use mathlib.Core.List.{List, map}
-use mathlib.Core.Logic.{_⊎_, inl, inr}
-use Prim.Native.Nat.{ℕ, _+_, _<_, _≤_}
 use native.Mathlib.Omega.{arith}
-use lib.ListN.{length}
-use Rattle.std.proofs.shelf.Tests.{both-ways, cases-eq}
-use Rattle.std.specs.declared.option.Option.{Option}
-use Rattle.std.specs.declared.option.Option.the-variants.{Some, None}
-use Rattle.std.specs.declared.result.Result.the-variants.{Ok, Err}
+use Rattle.std.specs.declared.result.Result.the-variants.{Ok}
 use Rattle.rules.specs.Order.{Order, Lawful}
 use Rattle.rules.specs.Leakage.{Leakage, Honest}
 use Rattle.rules.specs.Clearance.{Setting, array-level}
-use Rattle.rules.specs.Run.{Run, Sized, Agree, terms}
+use Rattle.rules.specs.Run.{Run, Sized, Agree}
 use Rattle.rules.proofs.Proved.{two-runs}
 use Rattle.listing.specs.declared.routine.Routine.{Routine}
 use Rattle.reach.proofs.Loaded.{formed-of, arrays-of}
 use Rattle.clearance.specs.declared.record.Examination.{Examination}
-use Rattle.clearance.specs.declared.outcome.Outcome.{Outcome}
 use Rattle.clearance.specs.declared.outcome.Outcome.the-variants as outcome
-use Rattle.clearance.specs.declared.outcome.ClearFault.{ClearFault}
-use Rattle.clearance.specs.declared.outcome.ClearFault.the-variants as fault
-use Rattle.clearance.specs.Outcomes.{is-granted, fault-of}
+use Rattle.clearance.specs.Outcomes.{is-granted}
 use Rattle.clearance.specs.Opens.{opens-of}
-use Rattle.clearance.specs.Scenes.{Scene, scene, setting, Fitting}
-use Rattle.clearance.specs.Examinations.{Examined, Right-opens, Right-outcome}
+use Rattle.clearance.specs.Scenes.{Scene, scene, setting}
+use Rattle.clearance.specs.Examinations.{Examined, Right-opens}
 use Rattle.clearance.proofs.Tellings.{earned}
 use Rattle.run.specs.Views.{of-memory, zeroed}
-use Rattle.run.specs.Runs.{terms-of, state-of}
+use Rattle.run.specs.Runs.{terms-of}
 use Rattle.twin.specs.declared.pair.Pair.{Pair}
-use Rattle.twin.specs.declared.pair.Declined.{Declined}
-use Rattle.twin.specs.declared.pair.Reason.{Reason}
-use Rattle.twin.specs.declared.pair.Reason.the-variants.{Room, Clear}
 use Rattle.twin.specs.declared.pair.Memories.{Memories}
 use Rattle.twin.specs.Logs.{Journal, of-call, start-of, stop-of, Logged}
-use Rattle.twin.specs.Twins.{Same-look, Look-alike, Logged-by-rules, Kept, Ran, Tried, Declined-for, Declined-by, Both-open, Paired, scene-in, both-room}
+use Rattle.twin.specs.Twins.{Look-alike, Logged-by-rules, Ran, Tried, Both-open, scene-in}
 use Rattle.twin.proofs.Telling.{same-opens, logged-same}
 
 module _ {L M : Type 0} (o : Order L) (w : M → Leakage) (levels : List L) (listener : L) (e : Examination M)

@@ -1,13 +1,11 @@
 -- Logs, as they are overwritten and as they are read.
-use mathlib.Core.Path.{_≡_, refl, sym, ap, ap₂, _∙_, subst}
-use mathlib.Core.Bool.{Bool}
+use mathlib.Core.Path.{_≡_, refl, sym, ap, ap₂, _∙_}
 use mathlib.Core.List.{List, [], _∷_, _++_, map}
-use Prim.Native.Nat.{ℕ, zero, suc, _+_, _-_, _≤_}
-use native.Mathlib.Omega.{arith}
-use lib.ListN.{length, take, drop, take-append-drop, length-append, length-drop}
-use Rattle.std.proofs.shelf.Lists.{length-take-le, length-map}
-use Rattle.rules.specs.Run.{Terms, Line, Run, lines-of, reply, after}
-use Rattle.rules.specs.Run.{Call as Rules-call, Answer as Rules-answer}
+use Prim.Native.Nat.{ℕ}
+use lib.ListN.{length, take, drop, take-append-drop}
+use Rattle.std.proofs.shelf.Lists.{length-map}
+use Rattle.rules.specs.Run.{Terms, Run, lines-of, reply}
+use Rattle.rules.specs.Run.{Answer as Rules-answer}
 use Rattle.rules.specs.Run.Call.{Advance}
 use Rattle.rules.specs.Run.Answer.{Advanced, Granted, Told, Refused}
 use Rattle.twin.specs.declared.call.Call.{Call}

@@ -3,6 +3,7 @@ use mathlib.Core.Path.{_≡_}
 use mathlib.Core.Bool.{Bool, true, false, _&&_}
 use mathlib.Core.List.{List, map}
 use Prim.Native.Nat.{ℕ}
+use denote.Ref.{now}
 use Rattle.std.specs.declared.option.Option.the-variants.{Some}
 use Rattle.std.specs.declared.result.Result.{Result}
 use Rattle.std.specs.declared.result.Result.the-variants.{Ok, Err}
@@ -11,7 +12,6 @@ use Rattle.rules.specs.Leakage.{Leakage}
 use Rattle.rules.specs.Clearance.{Setting, Cleared, Leak, Tells-open}
 use Rattle.rules.specs.Run.{Run, Agree, Alike, terms}
 use Rattle.clearance.specs.declared.record.Examination.{Examination}
-use Rattle.clearance.specs.declared.outcome.ClearFault.{ClearFault}
 use Rattle.clearance.specs.declared.outcome.ClearFault.the-variants as fault
 use Rattle.clearance.specs.Outcomes.{is-granted, fault-of}
 use Rattle.clearance.specs.Scenes.{Scene, scene, setting, Fitting}
@@ -91,11 +91,13 @@ Declined-by e j k Room = both-room j k ≡ false
 Declined-by e j k (Clear f) = (both-room j k ≡ true) × (fault-of (e .outcome) ≡ Some f)
 
 module _ {L M : Type 0} (o : Order L) (w : M → Leakage) (levels : List L) (listener : L) (e : Examination M) (j k : Journal) where
-  -- Both lists were made, and both runs are still open, where the rules say that they stand. The guarantee holds of these levels and this
-  -- listener if the record was made for them.
+  -- Both lists were made, and both runs of the record are still open, where the rules say that they stand. The guarantee holds of these levels
+  -- and this listener if the record was made for them.
   pub record Both-open (p : Pair M) : Type 0 where
     pub room : both-room j k ≡ true
     pub granted : is-granted (e .outcome) ≡ true
+    pub first-exam : now (p .first .run .exam) ≡ e
+    pub second-exam : now (p .second .run .exam) ≡ e
     pub first-log : Logged (terms-of w e) (start-of j) j
     pub second-log : Logged (terms-of w e) (start-of k) k
     pub first-state : state-of (p .first .run) ≡ stop-of (e .routine .listing) j

@@ -85,6 +85,7 @@ fn run_list<'a, M: LeakageModel>(
     requires { ⌜ has-room (now calls) (now answers) (now lines) ≡ true ⌝ }
     ensures logged { λ r. ⌜ Logged (terms-of leakage (now (clearance .entry .exam))) (started (of-memory memory)) (journal memory (now (calls .entry)) (now (answers .entry)) (now (answers .exit)) (now (lines .entry)) (now (lines .exit))) ⌝ }
     ensures state { λ r. ⌜ state-of (r .run) ≡ stop-of (now (clearance .entry .exam) .routine .listing) (journal memory (now (calls .entry)) (now (answers .entry)) (now (answers .exit)) (now (lines .entry)) (now (lines .exit))) ⌝ }
+    ensures exam { λ r. ⌜ now (r .run .exam) ≡ now (clearance .entry .exam) ⌝ }
 {
     let (mut run, ticket) = start(clearance, memory);
     perform(&mut run, calls, answers, lines);
@@ -121,6 +122,7 @@ fn run_both<'a, M: LeakageModel>(
     ensures second { λ r. ⌜ Logged (terms-of leakage (now (cleared .entry .second .exam))) (started (of-memory (memories .second))) (journal (memories .second) (now (others .entry)) (now (replies .entry)) (now (replies .exit)) (now (traces .entry)) (now (traces .exit))) ⌝ }
     ensures state { λ r. ⌜ state-of (r .first .run) ≡ stop-of (now (cleared .entry .first .exam) .routine .listing) (journal (memories .first) (now (calls .entry)) (now (answers .entry)) (now (answers .exit)) (now (lines .entry)) (now (lines .exit))) ⌝ }
     ensures other { λ r. ⌜ state-of (r .second .run) ≡ stop-of (now (cleared .entry .second .exam) .routine .listing) (journal (memories .second) (now (others .entry)) (now (replies .entry)) (now (replies .exit)) (now (traces .entry)) (now (traces .exit))) ⌝ }
+    ensures exams { λ r. ⌜ (now (r .first .run .exam) ≡ now (cleared .entry .first .exam)) × (now (r .second .run .exam) ≡ now (cleared .entry .second .exam)) ⌝ }
 {
     let Cleared {
         first: one,

@@ -36,6 +36,8 @@ returns g c =
     record {
       room = room;
       granted = granted;
+      first-exam = made .exams .0 ∙ cleared .0;
+      second-exam = made .exams .1 ∙ cleared .1;
       first-log = one;
       second-log = two;
       first-state = at;

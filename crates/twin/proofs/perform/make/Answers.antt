@@ -1,6 +1,5 @@
-use mathlib.Core.Path.{_≡_, ap, _∙_}
+use mathlib.Core.Path.{ap, _∙_}
 use Rattle.rules.specs.Run.{reply, after}
-use Rattle.rules.specs.Run.Call.{Advance}
 use lib.ListN.{length}
 use Rattle.twin.specs.Logs.{lines-in, overwritten}
 use Rattle.run.specs.Runs.{terms-in, state-of}

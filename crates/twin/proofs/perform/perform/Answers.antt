@@ -1,11 +1,9 @@
 use mathlib.Core.Path.{_≡_, refl, sym, ap, _∙_}
-use mathlib.Core.Bool.{true}
 use Prim.Native.Nat.{_+_, _≤_}
 use native.Mathlib.Omega.{arith}
 use borrow.Author.Needs.{needs}
 use lib.ListN.{length}
 use Rattle.run.specs.Runs.{terms-of}
-use Rattle.twin.specs.Logs.{has-room, all-places}
 use Rattle.twin.proofs.Along.{along-none, along-step, room-for, said-as, said-told, all-ended}
 use Rattle.twin.proofs.Hearing.{rooms, all-logged}
 use Rattle.twin.proofs.perform.perform.Needs as need

@@ -1,4 +1,3 @@
-use denote.Ref.{now}
 use Rattle.run.proofs.Points.{low, among, among-all, leads-low, stays}
 use Rattle.run.proofs.run.Run.step.Needs as need
 
