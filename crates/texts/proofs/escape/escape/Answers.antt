@@ -1,9 +1,9 @@
 use mathlib.Core.Path.{refl, ap}
 use mathlib.Core.List.{_++_}
 use Rattle.std.specs.Of.String.{string-bytes}
-use Rattle.report.specs.Escapes.{escaped-text}
-use Rattle.report.proofs.Adding.{turned, ended, escaped-step, escaped-all}
-use Rattle.report.proofs.escape.escape.Needs as need
+use Rattle.texts.specs.Escapes.{escaped-text}
+use Rattle.texts.proofs.Adding.{turned, ended, escaped-step, escaped-all}
+use Rattle.texts.proofs.escape.escape.Needs as need
 
 pub loop-byte-holds : need.loop-byte-holds
 loop-byte-holds c = ap (λ l. l ++ escaped-text (c .args .bytes .now)) (c .new-out .ensures .bytes)

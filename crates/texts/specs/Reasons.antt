@@ -5,8 +5,8 @@ use mathlib.Core.List.{List}
 use lib.Chars.{codes}
 use lib.Dec.{eqb}
 use Rattle.listing.specs.declared.faults.Refusal.{Refusal}
-use Rattle.report.specs.declared.sentence.Reason.{Reason}
-use Rattle.report.specs.declared.sentence.Reason.the-variants.{NoWholeLines, NumberColumn, LetterColumn, FirstColumn, SecondColumn, ThirdColumn, FourthColumn, NoNewline, NumberNotDue, LetterNotDue, ManyScalars, ManyArrays, ManyNodes, OtherLines, RegionStart, RegionLength, NoFirst, NoSecond, NoThird, NoFourth, LeftOpen, WrongPart, WrongHead, TooDeep, Other}
+use Rattle.texts.specs.declared.sentence.Reason.{Reason}
+use Rattle.texts.specs.declared.sentence.Reason.the-variants.{NoWholeLines, NumberColumn, LetterColumn, FirstColumn, SecondColumn, ThirdColumn, FourthColumn, NoNewline, NumberNotDue, LetterNotDue, ManyScalars, ManyArrays, ManyNodes, OtherLines, RegionStart, RegionLength, NoFirst, NoSecond, NoThird, NoFourth, LeftOpen, WrongPart, WrongHead, TooDeep, Other}
 
 -- rule 2: a column that breaks its rule
 abbrev pub column-reason : ℕ → Reason

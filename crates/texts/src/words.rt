@@ -3,7 +3,7 @@
 ghost use mathlib.Core.Path.{_≡_};
 ghost use Rattle.std.specs.Of.String.{string-bytes};
 ghost use Rattle.std.specs.Vec.{made};
-ghost use Rattle.report.specs.Words.{node-letter, node-words, operator-sign};
+ghost use Rattle.texts.specs.Words.{node-letter, node-words, operator-sign};
 use rules::Node;
 use rules::Operator;
 use std::alloc::AllocError;

@@ -3,7 +3,7 @@
 ghost use mathlib.Core.Path.{_≡_};
 ghost use Rattle.std.specs.Of.String.{string-bytes};
 ghost use Rattle.std.specs.Vec.{made};
-ghost use Rattle.report.specs.Refusals.{field-start, field-width, marker, line-shown, refusal-text};
+ghost use Rattle.texts.specs.Refusals.{field-start, field-width, marker, line-shown, refusal-text};
 use crate::escape::escape;
 use crate::layout::part_of;
 use crate::layout::put_times;
@@ -40,7 +40,7 @@ fn field_width(field: u32) -> usize
 }
 
 /// Blanks under what is shown before the field, and a mark under each character that is shown of the field.
-pub(crate) fn mark_under(heap: Global, line: &[u8], field: u32) -> Result<String, AllocError>
+pub fn mark_under(heap: Global, line: &[u8], field: u32) -> Result<String, AllocError>
     ensures { λ r. ⌜ made r (λ s. string-bytes s ≡ marker (now (line .entry)) field) ⌝ }
 {
     let start = field_start(field);

@@ -7,8 +7,8 @@ use native.Mathlib.Numerals.{add-one}
 use lib.ListN.{length, getD, drop}
 use lib.Seq.{drop-cons}
 use Rattle.std.proofs.shelf.Lists.{drop-all}
-use Rattle.report.specs.Escapes.{escaped, escaped-text}
-use Rattle.report.specs.Layouts.{times}
+use Rattle.texts.specs.Escapes.{escaped, escaped-text}
+use Rattle.texts.specs.Layouts.{times}
 
 -- one call after another
 pub onto : (w a n b m : List ℕ) → n ≡ w ++ a → m ≡ n ++ b → m ≡ w ++ (a ++ b)

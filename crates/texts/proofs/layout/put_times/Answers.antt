@@ -2,9 +2,9 @@ use mathlib.Core.Path.{ap}
 use mathlib.Core.List.{_++_}
 use native.Mathlib.Nat.{sub-zero}
 use Rattle.std.specs.Of.String.{string-bytes}
-use Rattle.report.specs.Layouts.{times}
-use Rattle.report.proofs.Adding.{turned, ended, times-step, times-all}
-use Rattle.report.proofs.layout.put_times.Needs as need
+use Rattle.texts.specs.Layouts.{times}
+use Rattle.texts.proofs.Adding.{turned, ended, times-step, times-all}
+use Rattle.texts.proofs.layout.put_times.Needs as need
 
 pub loop-holds : need.loop-holds
 loop-holds c = ap (λ n. string-bytes (c .args .out .now) ++ times n (c .args .text .now)) (sub-zero (c .args .count))

@@ -1,6 +1,6 @@
 use mathlib.Core.Path.{sym, ap}
-use Rattle.report.specs.Reasons.{reason-sentence}
-use Rattle.report.proofs.sentence.Reason.sentence.Needs as need
+use Rattle.texts.specs.Reasons.{reason-sentence}
+use Rattle.texts.proofs.sentence.Reason.sentence.Needs as need
 
 pub returns-in-NoWholeLines : need.returns-in-NoWholeLines
 returns-in-NoWholeLines c = ap reason-sentence (sym (c .in-NoWholeLines .is))

@@ -5,12 +5,12 @@ ghost use mathlib.Core.List.{_++_};
 ghost use Rattle.std.specs.Of.String.{string-bytes};
 ghost use Rattle.std.specs.Vec.{made};
 ghost use Rattle.lines.specs.Lines.{part};
-ghost use Rattle.report.specs.Layouts.{times, set-right};
+ghost use Rattle.texts.specs.Layouts.{times, set-right};
 use std::alloc::AllocError;
 use std::alloc::Global;
 
 /// Adds the text `count` times.
-pub(crate) fn put_times(out: &mut String, count: usize, text: &str) -> Result<(), AllocError>
+pub fn put_times(out: &mut String, count: usize, text: &str) -> Result<(), AllocError>
     ensures { λ r. ⌜ made r (λ _. string-bytes (now (out .exit)) ≡ string-bytes (now (out .entry)) ++ times count (now (text .entry))) ⌝ }
 {
     for _ in 0..count {
@@ -20,7 +20,7 @@ pub(crate) fn put_times(out: &mut String, count: usize, text: &str) -> Result<()
 }
 
 /// The number, with blanks before it up to the width.
-pub(crate) fn right(heap: Global, width: usize, value: u64) -> Result<String, AllocError>
+pub fn right(heap: Global, width: usize, value: u64) -> Result<String, AllocError>
     ensures { λ r. ⌜ made r (λ s. string-bytes s ≡ set-right width value) ⌝ }
 {
     let digits = value.to_string(heap)?;
@@ -31,7 +31,7 @@ pub(crate) fn right(heap: Global, width: usize, value: u64) -> Result<String, Al
 }
 
 /// At most `width` bytes from place `start` on.
-pub(crate) fn part_of(bytes: &[u8], start: usize, width: usize) -> &[u8]
+pub fn part_of(bytes: &[u8], start: usize, width: usize) -> &[u8]
     ensures { λ r. ⌜ now r ≡ part start width (now (bytes .entry)) ⌝ }
 {
     let end = bytes.len();

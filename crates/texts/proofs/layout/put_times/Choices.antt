@@ -3,8 +3,8 @@ use mathlib.Core.Path.{_≡_}
 use mathlib.Core.List.{_++_}
 use lib.ListN.{drop}
 use Rattle.std.specs.Of.String.{string-bytes}
-use Rattle.report.specs.Layouts.{times}
-use Rattle.report.proofs.layout.put_times.Given as given
+use Rattle.texts.specs.Layouts.{times}
+use Rattle.texts.proofs.layout.put_times.Given as given
 
 -- what is added, with the turns to come, is the whole
 abbrev pub Inv-loop : given.InvT-loop

@@ -5,7 +5,7 @@ ghost use mathlib.Core.List.{_++_};
 ghost use Prim.Native.Nat.{_<_};
 ghost use Rattle.std.specs.Of.String.{string-bytes};
 ghost use Rattle.std.specs.Vec.{made};
-ghost use Rattle.report.specs.Escapes.{hex, by-digits, escaped, escaped-text};
+ghost use Rattle.texts.specs.Escapes.{hex, by-digits, escaped, escaped-text};
 use std::alloc::AllocError;
 use std::alloc::Global;
 
@@ -47,7 +47,7 @@ fn put_byte(out: &mut String, byte: u8) -> Result<(), AllocError>
 }
 
 /// The bytes, each shown.
-pub(crate) fn escape(heap: Global, bytes: &[u8]) -> Result<String, AllocError>
+pub fn escape(heap: Global, bytes: &[u8]) -> Result<String, AllocError>
     ensures { λ r. ⌜ made r (λ s. string-bytes s ≡ escaped-text (now (bytes .entry))) ⌝ }
 {
     let mut out = String::new(heap);

@@ -8,9 +8,9 @@ use lib.ListN.{length}
 use Rattle.std.specs.Written.{decimal}
 use Rattle.lines.specs.Lines.{part}
 use Rattle.listing.specs.declared.faults.Refusal.{Refusal}
-use Rattle.report.specs.Escapes.{escaped-text}
-use Rattle.report.specs.Layouts.{times}
-use Rattle.report.specs.Reasons.{reason-of, reason-sentence}
+use Rattle.texts.specs.Escapes.{escaped-text}
+use Rattle.texts.specs.Layouts.{times}
+use Rattle.texts.specs.Reasons.{reason-of, reason-sentence}
 
 -- how many columns stand before a field
 abbrev pub field-start : ℕ → ℕ

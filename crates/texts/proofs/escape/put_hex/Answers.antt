@@ -5,9 +5,9 @@ use lib.Chars.{codes}
 use lib.Utf8.{encode}
 use Rattle.std.specs.Of.String.{string-bytes}
 use Rattle.std.proofs.shelf.Text.{encode-ascii}
-use Rattle.report.specs.Escapes.{hex}
-use Rattle.report.proofs.Adding.{onto, onto-is}
-use Rattle.report.proofs.escape.put_hex.Needs as need
+use Rattle.texts.specs.Escapes.{hex}
+use Rattle.texts.proofs.Adding.{onto, onto-is}
+use Rattle.texts.proofs.escape.put_hex.Needs as need
 
 one : (d e : ℕ) → d < 128 → d ≡ e → encode d ≡ e ∷ []
 one d e h p = encode-ascii d h ∙ ap (λ (x : ℕ). x ∷ []) p

@@ -1,7 +1,7 @@
 //! Why a listing was refused, in one sentence for each rule and field.
 
 ghost use mathlib.Core.Path.{_≡_};
-ghost use Rattle.report.specs.Reasons.{column-reason, region-reason, name-reason, block-reason, count-reason, place-reason, reason-of, reason-sentence};
+ghost use Rattle.texts.specs.Reasons.{column-reason, region-reason, name-reason, block-reason, count-reason, place-reason, reason-of, reason-sentence};
 use listing::Refusal;
 
 /// What is wrong with a listing.

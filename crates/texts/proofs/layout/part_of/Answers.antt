@@ -4,7 +4,7 @@ use Prim.Native.Nat.{ℕ}
 use native.Mathlib.Omega.{arith}
 use lib.ListN.{length, take, drop, length-drop}
 use Rattle.std.proofs.shelf.Lists.{drop-all, take-all, take-rest}
-use Rattle.report.proofs.layout.part_of.Needs as need
+use Rattle.texts.proofs.layout.part_of.Needs as need
 
 pub returns-then-start-end : need.returns-then-start-end
 returns-then-start-end c =
