@@ -1,0 +1,4 @@
+mod Notes
+mod Extending
+mod Ending
+mod Following
