@@ -31,3 +31,10 @@ all-numbers s = owner-numbers true s 0 16
 
 abbrev pub owner-name : Owners → List ℕ
 owner-name o = codes "{" ++ (all-numbers (o .set) ++ codes "}")
+
+-- the two orders in words
+abbrev pub secrecy-told : List ℕ
+secrecy-told = codes "two levels, public below secret"
+
+abbrev pub owners-told : List ℕ
+owners-told = codes "sets of owners, each below the sets that contain it"

@@ -14,7 +14,14 @@ pub trait NamedLevel: Level {
     /// The name.
     ghost named: { Self → List ℕ };
 
+    /// The order that the level stands in, in words.
+    ghost told: { List ℕ };
+
     /// The name, as a text.
     fn name(self, heap: Global) -> Result<String, AllocError>
         ensures { λ r. ⌜ made r (λ s. string-bytes s ≡ named self) ⌝ };
+
+    /// The order in words, as a text.
+    fn order_words() -> &'static str
+        ensures { λ r. ⌜ now r ≡ told ⌝ };
 }

@@ -3,7 +3,7 @@
 ghost use mathlib.Core.Path.{_≡_};
 ghost use Rattle.std.specs.Of.String.{string-bytes};
 ghost use Rattle.std.specs.Vec.{made};
-ghost use Rattle.findings.specs.Names.{owner-name, all-numbers, separator};
+ghost use Rattle.findings.specs.Names.{owner-name, owners-told, all-numbers, separator};
 use crate::named::NamedLevel;
 use levels::Owners;
 use levels::OwnersLevel;
@@ -39,8 +39,14 @@ fn owner_numbers(heap: Global, set: u16) -> Result<String, AllocError>
 pub impl NamedLevel for Owners as OwnersNames {
     ghost named = { owner-name };
 
+    ghost told = { owners-told };
+
     fn name(self, heap: Global) -> Result<String, AllocError> {
         let numbers = owner_numbers(heap, self.set)?;
         format!(heap, "{{{numbers}}}")
+    }
+
+    fn order_words() -> &'static str {
+        "sets of owners, each below the sets that contain it"
     }
 }

@@ -53,7 +53,7 @@ pub fn mark_under(heap: Global, line: &[u8], field: u32) -> Result<String, Alloc
 }
 
 /// The line and the mark below it, or nothing where there is no line.
-fn line_shown(heap: Global, line: &[u8], field: u32) -> Result<String, AllocError>
+pub fn line_shown(heap: Global, line: &[u8], field: u32) -> Result<String, AllocError>
     ensures { λ r. ⌜ made r (λ s. string-bytes s ≡ line-shown (now (line .entry)) field) ⌝ }
 {
     if line.is_empty() {
