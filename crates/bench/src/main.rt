@@ -1,6 +1,7 @@
-//! The fitters' program: shows a listing, or says why it is refused.
+//! The fitters' program: shows a listing, and says whether it is cleared or where it leaks.
 
 mod arguments;
+mod clear;
 mod failure;
 mod input;
 mod show;
@@ -38,6 +39,7 @@ fn run(rt: &LibcRuntime) -> Result<(), Failure> {
             Ok(())
         }
         Ok(Verb::Show) => show::run(rt, word_at(words, 1)),
+        Ok(Verb::Clear) => clear::run(rt, words),
         Err(misuse) => {
             let text = misuse_text(rt.alloc(), misuse, words)?;
             Err(Failure::Misuse { text })

@@ -9,8 +9,8 @@ use Rattle.listing.specs.declared.parts.Listing.{Listing}
 use Rattle.rules.specs.declared.Region.{Region}
 use Rattle.rules.specs.declared.Node.{Node}
 use Rattle.rules.specs.declared.Node.the-variants.{Constant, Move, Operate, Select, Read, Write, If, Else, EndIf, While, EndWhile}
-use Rattle.report.specs.Layouts.{times, set-right}
-use Rattle.report.specs.Words.{node-letter, node-words}
+use Rattle.texts.specs.Layouts.{times, set-right}
+use Rattle.texts.specs.Words.{node-letter, node-words}
 
 abbrev pub counts-text : Counts → List ℕ
 counts-text c =

@@ -16,7 +16,7 @@ use Rattle.listing.specs.Reading.{listing-read}
 use Rattle.report.specs.declared.sheet.Sheet.{Sheet}
 use Rattle.report.specs.declared.sheet.Sheet.the-variants.{Loaded, Refused}
 use Rattle.report.specs.Records.{record-text}
-use Rattle.report.specs.Refusals.{refusal-text}
+use Rattle.texts.specs.Refusals.{refusal-text}
 
 abbrev pub listing-of : Routine → Listing
 listing-of t = t .listing

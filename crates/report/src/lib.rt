@@ -1,9 +1,4 @@
-//! The texts of the bench: what a routine is, node by node, and why a listing was refused.
+//! The record of a listing: what a routine is, node by node, or why the listing was refused.
 
-mod escape;
-mod layout;
 pub mod record;
-pub mod refused;
-pub mod sentence;
 pub mod sheet;
-pub mod words;

@@ -7,16 +7,16 @@ ghost use lib.ListN.{take};
 ghost use Rattle.std.specs.Of.String.{string-bytes};
 ghost use Rattle.std.specs.Vec.{made};
 ghost use Rattle.report.specs.Records.{counts-text, region-row, regions-text, depth-after, row-depth, node-row, nodes-text, record-text};
-use crate::layout::put_times;
-use crate::layout::right;
-use crate::words::letter;
-use crate::words::words;
 use listing::Counts;
 use listing::Listing;
 use rules::Node;
 use rules::Region;
 use std::alloc::AllocError;
 use std::alloc::Global;
+use texts::layout::put_times;
+use texts::layout::right;
+use texts::words::letter;
+use texts::words::words;
 
 /// How many scalars, arrays and nodes there are.
 fn counts_text(heap: Global, counts: Counts) -> Result<String, AllocError>

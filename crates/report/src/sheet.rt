@@ -10,12 +10,12 @@ ghost use Rattle.listing.specs.Texts.{listing-text};
 ghost use Rattle.report.specs.Records.{record-text};
 ghost use Rattle.report.specs.Sheets.{back-text, listing-of, Shown};
 use crate::record::record_text;
-use crate::refused::refusal_text;
 use listing::Routine;
 use listing::load;
 use listing::write;
 use std::alloc::AllocError;
 use std::alloc::Global;
+use texts::refused::refusal_text;
 
 /// The most bytes that a listing has: a header, 8 arrays and 128 nodes.
 const MOST_BYTES: usize = 6987;

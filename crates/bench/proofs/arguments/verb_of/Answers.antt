@@ -13,11 +13,11 @@ use Rattle.bench.proofs.arguments.verb_of.Needs as need
 differs : (s t : List ℕ) → (s ≡ t → ⊥) → sameBytes s t ≡ false
 differs s t h = search (needs, sameBytes-decides)
 
-none : (s : List ℕ) → sameBytes s (codes "show") ≡ false → sameBytes s (codes "help") ≡ false → sameBytes s (codes "--help") ≡ false → sameBytes s (codes "-h") ≡ false → None ≡ verb-of s
-none s a b d e = simp (a, b, d, e)
+none : (s : List ℕ) → sameBytes s (codes "show") ≡ false → sameBytes s (codes "clear") ≡ false → sameBytes s (codes "help") ≡ false → sameBytes s (codes "--help") ≡ false → sameBytes s (codes "-h") ≡ false → None ≡ verb-of s
+none s a x b d e = simp (a, x, b, d, e)
 
 pub returns-in-rest : need.returns-in-rest
 returns-in-rest c =
     let w = c .args .word .now in
-    none w (differs w (codes "show") (c .in-rest .not-show)) (differs w (codes "help") (c .in-rest .not-help))
+    none w (differs w (codes "show") (c .in-rest .not-show)) (differs w (codes "clear") (c .in-rest .not-clear)) (differs w (codes "help") (c .in-rest .not-help))
     (differs w (codes "--help") (c .in-rest .not-text)) (differs w (codes "-h") (c .in-rest .not-text-2))

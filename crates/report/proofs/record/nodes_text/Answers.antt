@@ -7,7 +7,7 @@ use borrow.Author.Tests.{false-eqb}
 use Rattle.std.specs.Of.String.{string-bytes}
 use Rattle.rules.specs.declared.Node.the-variants.{Constant}
 use Rattle.report.specs.Records.{node-rows, nodes-heading, nodes-table}
-use Rattle.report.proofs.Adding.{onto-is, turned, ended}
+use Rattle.texts.proofs.Adding.{onto-is, turned, ended}
 use Rattle.report.proofs.Rows.{node-step, nodes-all, some-nodes, one-deeper}
 use Rattle.report.proofs.record.nodes_text.Needs as need
 

@@ -6,7 +6,7 @@ use lib.ListN.{length}
 use borrow.Author.Tests.{false-eqb}
 use Rattle.std.specs.Of.String.{string-bytes}
 use Rattle.report.specs.Records.{region-rows, regions-heading}
-use Rattle.report.proofs.Adding.{onto-is, turned, ended}
+use Rattle.texts.proofs.Adding.{onto-is, turned, ended}
 use Rattle.report.proofs.Rows.{region-step, regions-all, some-regions}
 use Rattle.report.proofs.record.regions_text.Needs as need
 

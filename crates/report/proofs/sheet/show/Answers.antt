@@ -1,7 +1,7 @@
 use mathlib.Core.Path.{ap, _∙_}
 use Rattle.listing.specs.Texts.{listing-text}
 use Rattle.report.specs.Records.{record-text}
-use Rattle.report.specs.Refusals.{refusal-text}
+use Rattle.texts.specs.Refusals.{refusal-text}
 use Rattle.report.proofs.Back.{identical}
 use Rattle.report.proofs.sheet.show.Needs as need
 

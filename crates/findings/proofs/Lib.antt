@@ -1,0 +1,4 @@
+pub mod Bytes
+pub mod Numbering
+pub mod Rows
+pub mod Told

@@ -1,0 +1,121 @@
+//! What a clearing finds of a listing.
+
+use crate::leaking::site_text;
+use crate::leaking::way_text;
+use crate::model::Layered;
+use crate::model::LayeredModel;
+use crate::named::NamedLevel;
+use crate::who::who_text;
+use clearance::Examination;
+use clearance::LeakSite;
+use clearance::Outcome;
+use clearance::examine;
+use listing::Counts;
+use listing::load;
+use path::leak_path;
+use reach::counts_of;
+use std::alloc::AllocError;
+use std::alloc::Global;
+use texts::refused::refusal_text;
+
+/// What a clearing finds, with its record.
+#[derive(Drop)]
+pub enum Finding {
+    /// Nothing leaks.
+    Cleared { text: String },
+    /// The leak that is named.
+    Leaking { text: String },
+    /// The listing does not load, or the table has another length.
+    Refused { text: String },
+}
+
+/// Why the table is refused.
+fn table_text(heap: Global, counts: Counts, given: usize) -> Result<String, AllocError> {
+    let scalars = counts.scalars;
+    let arrays = counts.arrays;
+    let wanted = u64::from(scalars) + u64::from(arrays);
+    format!(
+        heap,
+        "refusal 10\nThe table has {given} levels, and {wanted} are wanted: {scalars} for the scalars and {arrays} for the arrays.\n"
+    )
+}
+
+/// The record of a leak.
+fn leak_text<L: NamedLevel>(
+    heap: Global,
+    exam: &Examination<Layered>,
+    bytes: &[u8],
+    levels: &[L],
+    listener: L,
+    site: LeakSite,
+) -> Result<String, AllocError> {
+    let routine = exam.routine();
+    let place = site_text(heap, routine, bytes, levels, listener, site)?;
+    match leak_path(exam) {
+        Some(path) => {
+            let way = way_text(heap, routine, site, &path)?;
+            format!(heap, "{place}{way}")
+        }
+        None => Ok(place),
+    }
+}
+
+/// What the examination comes to, in words.
+fn finding_of<L: NamedLevel>(
+    heap: Global,
+    exam: &Examination<Layered>,
+    bytes: &[u8],
+    levels: &[L],
+    listener: L,
+) -> Result<Finding, AllocError> {
+    let counts = counts_of(exam.routine());
+    match exam.outcome() {
+        Outcome::TableLength => {
+            let text = table_text(heap, counts, levels.len())?;
+            Ok(Finding::Refused { text })
+        }
+        Outcome::Granted => {
+            let who = who_text(
+                heap,
+                exam.model(),
+                counts.scalars as usize,
+                levels,
+                listener,
+            )?;
+            let text = format!(heap, "{who}\ncleared\n")?;
+            Ok(Finding::Cleared { text })
+        }
+        Outcome::Leak(site) => {
+            let who = who_text(
+                heap,
+                exam.model(),
+                counts.scalars as usize,
+                levels,
+                listener,
+            )?;
+            let leak = leak_text(heap, exam, bytes, levels, listener, site)?;
+            let text = format!(heap, "{who}{leak}")?;
+            Ok(Finding::Leaking { text })
+        }
+    }
+}
+
+/// Loads the listing, clears it, and says what was found.
+pub fn clear_listing<L: NamedLevel>(
+    heap: Global,
+    bytes: &[u8],
+    model: Layered,
+    levels: &[L],
+    listener: L,
+) -> Result<Finding, AllocError> {
+    match load(bytes) {
+        Ok(routine) => {
+            let exam = examine(routine, model, levels, listener);
+            finding_of(heap, &exam, bytes, levels, listener)
+        }
+        Err(fault) => {
+            let text = refusal_text(heap, bytes, fault.refusal())?;
+            Ok(Finding::Refused { text })
+        }
+    }
+}

@@ -1,0 +1,5 @@
+pub mod Words
+pub mod Layouts
+pub mod Escapes
+pub mod Reasons
+pub mod Refusals
