@@ -50,6 +50,7 @@ pub fn trial<L: Level, M: LeakageModel>(
 ) -> Result<Memories, Declined>
     ensures { λ r. ⌜ Tried (scene (L·Level .order) (M·LeakageModel .leakage model) (routine .listing) (now (levels .entry)) listener) (journal (memories .first) (now (calls .entry)) (now (log .entry .answers)) (now (log .exit .0)) (now (log .entry .lines)) (now (log .exit .1 .0))) (journal (memories .second) (now (others .entry)) (now (copy .entry .answers)) (now (copy .exit .0)) (now (copy .entry .lines)) (now (copy .exit .1 .0))) r ⌝ }
 {
+    // A log that was passed in cannot be handed on: its rooms are, in a log made anew.
     let Log { answers, lines } = log;
     let log = Log { answers, lines };
     let Log { answers, lines } = copy;
