@@ -13,6 +13,110 @@ struct Case {
     refusal: (u32, u32, u32),
 }
 
+/// A listing for each rule, and for some rules one for each field.
+const CASES: [Case; 25] = [
+    Case {
+        text: b"",
+        refusal: (1, 0, 0),
+    },
+    Case {
+        text: b"   0 H          2          1          2           \n   0 A          0          4                      \n   0 R          1          0          0           \n   1 K          0          7                      ",
+        refusal: (1, 3, 0),
+    },
+    Case {
+        text: b"   0 H         02          0          1           \n   0 K          0          7                      \n",
+        refusal: (2, 0, 2),
+    },
+    Case {
+        text: b"   0 H          1          0          1           \n   0KK          0          7                      \n",
+        refusal: (2, 1, 1),
+    },
+    Case {
+        text: b"   0 H          1          0          1           \n   0 X          0          7                      \n",
+        refusal: (2, 1, 1),
+    },
+    Case {
+        text: b"   0 H          1          0          1           \n   0 K          0 4294967296                      \n",
+        refusal: (2, 1, 3),
+    },
+    Case {
+        text: b"   0 H          1          0          1           \n   0 K          0          7                      \r",
+        refusal: (2, 1, 6),
+    },
+    Case {
+        text: b"   0 H          1          0          1           \n   1 K          0          7                      \n",
+        refusal: (3, 1, 0),
+    },
+    Case {
+        text: b"   0 H          1          0          1           \n   0 A          0          7                      \n",
+        refusal: (3, 1, 1),
+    },
+    Case {
+        text: b"   0 K          0          7                      \n",
+        refusal: (3, 0, 1),
+    },
+    Case {
+        text: b"   0 H         25          9        129           \n",
+        refusal: (4, 0, 2),
+    },
+    Case {
+        text: b"   0 H         24          9        129           \n",
+        refusal: (4, 0, 3),
+    },
+    Case {
+        text: b"   0 H         24          8        129           \n",
+        refusal: (4, 0, 4),
+    },
+    Case {
+        text: b"   0 H          1          0          2           \n   0 K          0          7                      \n",
+        refusal: (5, 0, 0),
+    },
+    Case {
+        text: b"   0 H          1          0          0           \n   0 K          0          7                      \n",
+        refusal: (5, 0, 0),
+    },
+    Case {
+        text: b"   0 H          0          2          0           \n   0 A          0          4                      \n   1 A          3          4                      \n",
+        refusal: (6, 2, 2),
+    },
+    Case {
+        text: b"   0 H          0          1          0           \n   0 A        512          1                      \n",
+        refusal: (6, 1, 2),
+    },
+    Case {
+        text: b"   0 H          0          1          0           \n   0 A          0        257                      \n",
+        refusal: (6, 1, 3),
+    },
+    Case {
+        text: b"   0 H          0          1          0           \n   0 A        511          2                      \n",
+        refusal: (6, 1, 3),
+    },
+    Case {
+        text: b"   0 H          2          0          1           \n   0 O          0         12          2          2\n",
+        refusal: (7, 1, 3),
+    },
+    Case {
+        text: b"   0 H          2          1          1           \n   0 A          0          4                      \n   0 W          1          2          2           \n",
+        refusal: (7, 2, 2),
+    },
+    Case {
+        text: b"   0 H          1          0          1           \n   0 E          0                                 \n",
+        refusal: (8, 1, 1),
+    },
+    Case {
+        text: b"   0 H          1          0          3           \n   0 I          0          1                      \n   1 E          2                                 \n   2 F          1                                 \n",
+        refusal: (8, 3, 2),
+    },
+    Case {
+        text: b"   0 H          1          0          2           \n   0 I          0          1                      \n   1 E          2                                 \n",
+        refusal: (8, 3, 0),
+    },
+    Case {
+        text: b"   0 H          1          0          2           \n   0 L          0          1                      \n   1 J          1                                 \n",
+        refusal: (8, 2, 2),
+    },
+];
+
 /// The number, line and field by which a listing is refused.
 fn refused(text: &[u8]) -> Option<(u32, u32, u32)> {
     match load(text) {
@@ -64,108 +168,7 @@ fn constants(heap: Global, scalars: u32, nodes: u32) -> Result<String, Fail> {
 
 #[test]
 fn each_refusal() -> Result<(), Fail> {
-    for case in [
-        Case {
-            text: b"",
-            refusal: (1, 0, 0),
-        },
-        Case {
-            text: b"   0 H          2          1          2           \n   0 A          0          4                      \n   0 R          1          0          0           \n   1 K          0          7                      ",
-            refusal: (1, 3, 0),
-        },
-        Case {
-            text: b"   0 H         02          0          1           \n   0 K          0          7                      \n",
-            refusal: (2, 0, 2),
-        },
-        Case {
-            text: b"   0 H          1          0          1           \n   0KK          0          7                      \n",
-            refusal: (2, 1, 1),
-        },
-        Case {
-            text: b"   0 H          1          0          1           \n   0 X          0          7                      \n",
-            refusal: (2, 1, 1),
-        },
-        Case {
-            text: b"   0 H          1          0          1           \n   0 K          0 4294967296                      \n",
-            refusal: (2, 1, 3),
-        },
-        Case {
-            text: b"   0 H          1          0          1           \n   0 K          0          7                      \r",
-            refusal: (2, 1, 6),
-        },
-        Case {
-            text: b"   0 H          1          0          1           \n   1 K          0          7                      \n",
-            refusal: (3, 1, 0),
-        },
-        Case {
-            text: b"   0 H          1          0          1           \n   0 A          0          7                      \n",
-            refusal: (3, 1, 1),
-        },
-        Case {
-            text: b"   0 K          0          7                      \n",
-            refusal: (3, 0, 1),
-        },
-        Case {
-            text: b"   0 H         25          9        129           \n",
-            refusal: (4, 0, 2),
-        },
-        Case {
-            text: b"   0 H         24          9        129           \n",
-            refusal: (4, 0, 3),
-        },
-        Case {
-            text: b"   0 H         24          8        129           \n",
-            refusal: (4, 0, 4),
-        },
-        Case {
-            text: b"   0 H          1          0          2           \n   0 K          0          7                      \n",
-            refusal: (5, 0, 0),
-        },
-        Case {
-            text: b"   0 H          1          0          0           \n   0 K          0          7                      \n",
-            refusal: (5, 0, 0),
-        },
-        Case {
-            text: b"   0 H          0          2          0           \n   0 A          0          4                      \n   1 A          3          4                      \n",
-            refusal: (6, 2, 2),
-        },
-        Case {
-            text: b"   0 H          0          1          0           \n   0 A        512          1                      \n",
-            refusal: (6, 1, 2),
-        },
-        Case {
-            text: b"   0 H          0          1          0           \n   0 A          0        257                      \n",
-            refusal: (6, 1, 3),
-        },
-        Case {
-            text: b"   0 H          0          1          0           \n   0 A        511          2                      \n",
-            refusal: (6, 1, 3),
-        },
-        Case {
-            text: b"   0 H          2          0          1           \n   0 O          0         12          2          2\n",
-            refusal: (7, 1, 3),
-        },
-        Case {
-            text: b"   0 H          2          1          1           \n   0 A          0          4                      \n   0 W          1          2          2           \n",
-            refusal: (7, 2, 2),
-        },
-        Case {
-            text: b"   0 H          1          0          1           \n   0 E          0                                 \n",
-            refusal: (8, 1, 1),
-        },
-        Case {
-            text: b"   0 H          1          0          3           \n   0 I          0          1                      \n   1 E          2                                 \n   2 F          1                                 \n",
-            refusal: (8, 3, 2),
-        },
-        Case {
-            text: b"   0 H          1          0          2           \n   0 I          0          1                      \n   1 E          2                                 \n",
-            refusal: (8, 3, 0),
-        },
-        Case {
-            text: b"   0 H          1          0          2           \n   0 L          0          1                      \n   1 J          1                                 \n",
-            refusal: (8, 2, 2),
-        },
-    ] {
+    for case in CASES {
         check_eq(refused(case.text), Some(case.refusal))?;
     }
     Ok(())
