@@ -4,3 +4,4 @@ pub mod Tables
 pub mod Who
 pub mod WayTexts
 pub mod Leaks
+pub mod Findings
