@@ -27,8 +27,8 @@ use Rattle.path.specs.LeakWays.{Leak-way}
 use Rattle.texts.specs.Refusals.{refusal-text}
 use Rattle.findings.specs.declared.finding.Finding.{Finding}
 use Rattle.findings.specs.declared.finding.Finding.the-variants as finding
-use Rattle.findings.specs.declared.model.Layered.{Layered}
-use Rattle.findings.specs.Models.{base-leakage, layered}
+use Rattle.settings.specs.declared.model.Layered.{Layered}
+use Rattle.settings.specs.Models.{base-leakage, layered}
 use Rattle.findings.specs.Who.{who-text}
 use Rattle.findings.specs.Leaks.{site-text, way-text}
 

@@ -3,7 +3,7 @@ use mathlib.Core.Logic.{inl, inr}
 use Rattle.listing.specs.declared.routine.Routine.{Routine}
 use Rattle.texts.specs.Refusals.{refusal-text}
 use Rattle.findings.specs.declared.finding.Finding.{Finding}
-use Rattle.findings.specs.declared.model.Layered.{Layered}
+use Rattle.settings.specs.declared.model.Layered.{Layered}
 use Rattle.findings.specs.Findings.{Told, Found}
 use Rattle.findings.proofs.Told.{made-so}
 use Rattle.findings.proofs.finding.clear_listing.Needs as need

@@ -7,7 +7,7 @@ use Rattle.listing.specs.declared.parts.Counts.{Counts}
 use Rattle.listing.specs.declared.routine.Routine.{Routine}
 use Rattle.clearance.specs.declared.outcome.Outcome.{Outcome}
 use Rattle.findings.specs.declared.finding.Finding.the-variants.{Cleared, Leaking, Refused}
-use Rattle.findings.specs.declared.model.Layered.{Layered}
+use Rattle.settings.specs.declared.model.Layered.{Layered}
 use Rattle.findings.specs.Who.{who-text}
 use Rattle.findings.specs.Findings.{table-text, cleared-text, Told}
 use Rattle.findings.proofs.finding.finding_of.Needs as need
