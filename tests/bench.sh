@@ -143,6 +143,94 @@ bad bytes-65536 < <(head -c 65536 /dev/zero | tr '\0' 'x')
 bad bytes-65537 < <(head -c 65537 /dev/zero | tr '\0' 'x')
 input=/dev/zero check endless-input show -
 
+# clear NAME FILE TABLE WORD..: clears the file with the table of levels, under that name
+clear() {
+  local name=$1 file=$2 table=$3
+  shift 3
+  check "clear-$name" clear "$file" --levels "$table" "$@"
+}
+
+# cleared or not: two levels, and what each model hears
+clear lookup examples/lookup.lst 100
+clear lookup-pc examples/lookup.lst 100 --model pc
+clear lookup-line16 examples/lookup.lst 100 --model line16
+clear lookup-tv-pc examples/lookup.lst 100 --model tv+pc
+clear lookup-public examples/lookup.lst 000
+clear lookup-secret-listener examples/lookup.lst 100 --listener 1
+clear lookup-baseline-named examples/lookup.lst 100 --order two --listener 0 --model baseline
+clear repaired examples/lookup-repaired.lst 100001
+clear repaired-tv examples/lookup-repaired.lst 100001 --model tv+baseline
+clear secret-loop examples/secret-loop.lst 01
+clear secret-loop-pc examples/secret-loop.lst 01 --model pc
+clear secret-loop-first examples/secret-loop.lst 11
+clear secret-loop-public examples/secret-loop.lst 00
+clear loop examples/loop.lst 11111
+clear loop-line8 examples/loop.lst 11111 --model line8
+clear nested examples/nested.lst 0010
+clear nested-result examples/nested.lst 0001
+clear division examples/division.lst 100
+clear division-tv examples/division.lst 100 --model tv+baseline
+clear division-tv-right examples/division.lst 010 --model tv+pc
+clear operators examples/operators.lst 010000
+clear operators-array-level examples/operators.lst 010000 --model pc
+clear operators-array-secret examples/operators.lst 010001 --model pc
+clear operators-line8 examples/operators.lst 010001 --model line8
+clear empty examples/empty.lst ''
+input=examples/lookup.lst clear standard-input - 100
+
+# a way of several steps: array 0 into scalar 1, round the loop through scalars 2 and 3, and into the condition
+{ line 0 H 4 1 7; line 0 A 0 32; line 0 R 1 0 0; line 1 L 3 6; line 2 M 3 2; line 3 K 0 5; line 4 M 2 1; line 5 W 0 0 1; line 6 J 1; } > way.lst
+clear way way.lst 00001
+clear way-cleared way.lst 00000
+# arrays in one line of 16 cells, and in two lines of 8
+{ line 0 H 1 2 2; line 0 A 0 8; line 1 A 12 8; line 0 R 0 0 0; line 1 R 0 1 0; } > lines.lst
+clear lines-16 lines.lst 100 --model line16
+clear lines-8 lines.lst 100 --model line8
+# a value that may not be stored: bound 1, operand 3
+{ line 0 H 2 1 1; line 0 A 4 4; line 0 W 0 0 1; } > store.lst
+clear store store.lst 010 --model pc
+clear store-secret-array store.lst 011 --model pc
+clear store-index store.lst 100 --model pc
+
+# sets of owners
+clear owners examples/lookup.lst 9,1,1 --order owners --listener 1
+clear owners-may-know examples/lookup.lst 9,1,1 --order owners --listener 9
+clear owners-nobody examples/lookup.lst 0,65535,0 --order owners
+clear owners-all examples/lookup.lst 65535,0,0 --order owners --listener 32767
+clear owners-store store.lst 0,4,2 --order owners --listener 65535
+
+# tables of another length, and listings that are refused
+clear table-short examples/lookup.lst 10
+clear table-long examples/lookup.lst 1000
+clear table-none examples/lookup.lst ''
+clear table-owners-short examples/lookup.lst 9,1 --order owners
+clear refused examples/refused/7-no-such-scalar.lst 1
+
+# calls of clear
+check clear-no-file clear
+check clear-no-file-but-levels clear --levels 100
+check clear-no-levels clear examples/lookup.lst
+check clear-no-value clear examples/lookup.lst --levels
+check clear-options-first clear --model pc --levels 100 examples/lookup.lst
+check clear-second-file clear examples/lookup.lst --levels 100 examples/loop.lst
+check clear-no-such-file clear nowhere.lst --levels 100
+clear option-unknown examples/lookup.lst 100 --mode pc
+clear option-twice examples/lookup.lst 100 --levels 100
+clear model-unknown examples/lookup.lst 100 --model line32
+clear model-layered-twice examples/lookup.lst 100 --model tv+tv+pc
+clear order-unknown examples/lookup.lst 100 --order three
+clear digit-bad examples/lookup.lst 120
+clear digit-comma examples/lookup.lst 1,0,0
+clear code-bad examples/lookup.lst 9,x,1 --order owners
+clear code-too-large examples/lookup.lst 65536,1,1 --order owners
+clear code-missing examples/lookup.lst 9,,1 --order owners
+clear code-at-end-missing examples/lookup.lst 9,1, --order owners
+clear code-signed examples/lookup.lst +9,1,1 --order owners
+clear listener-bad examples/lookup.lst 100 --listener 2
+clear listener-two examples/lookup.lst 100 --listener 01
+clear listener-none examples/lookup.lst 100 --listener ''
+clear listener-owners-two examples/lookup.lst 9,1,1 --order owners --listener 1,1
+
 # calls
 check help help
 check help-long --help

@@ -9,17 +9,17 @@ use crate::failure::FailureFromIo;
 use crate::input::read;
 use findings::Finding;
 use findings::clear_listing;
-use findings::model::Base;
-use findings::model::Layered;
-use findings::named::NamedLevel;
-use findings::owner_names::OwnersNames;
-use findings::reading::owner_sets;
-use findings::reading::two_levels;
-use findings::secrecy_names::SecrecyNames;
 use levels::Owners;
 use levels::OwnersLevel;
 use levels::Secrecy;
 use levels::SecrecyLevel;
+use settings::model::Base;
+use settings::model::Layered;
+use settings::named::NamedLevel;
+use settings::owner_names::OwnersNames;
+use settings::reading::owner_sets;
+use settings::reading::two_levels;
+use settings::secrecy_names::SecrecyNames;
 use std::alloc::Global;
 
 /// An order of levels.

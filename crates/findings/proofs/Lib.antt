@@ -1,4 +1,2 @@
-pub mod Bytes
-pub mod Numbering
 pub mod Rows
 pub mod Told

@@ -7,8 +7,8 @@ use lib.Dec.{ltb}
 use lib.ListN.{length}
 use Rattle.std.specs.Written.{decimal}
 use Rattle.texts.specs.Layouts.{times}
-use Rattle.findings.specs.declared.model.Layered.{Layered}
-use Rattle.findings.specs.Models.{base-words, layer-words}
+use Rattle.settings.specs.declared.model.Layered.{Layered}
+use Rattle.settings.specs.Models.{base-words, layer-words}
 
 -- what start name m is, where there are s scalars
 abbrev pub start-name : ℕ → ℕ → List ℕ

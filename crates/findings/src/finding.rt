@@ -1,10 +1,12 @@
 //! What a clearing finds of a listing.
 
+ghost use mathlib.Core.Path.{_≡_};
+ghost use Rattle.std.specs.Of.String.{string-bytes};
+ghost use Rattle.std.specs.Vec.{made};
+ghost use Rattle.clearance.specs.declared.outcome.Outcome.the-variants.{Leak};
+ghost use Rattle.findings.specs.Findings.{table-text, Told, Leak-told, Found};
 use crate::leaking::site_text;
 use crate::leaking::way_text;
-use crate::model::Layered;
-use crate::model::LayeredModel;
-use crate::named::NamedLevel;
 use crate::who::who_text;
 use clearance::Examination;
 use clearance::LeakSite;
@@ -14,6 +16,9 @@ use listing::Counts;
 use listing::load;
 use path::leak_path;
 use reach::counts_of;
+use settings::model::Layered;
+use settings::model::LayeredModel;
+use settings::named::NamedLevel;
 use std::alloc::AllocError;
 use std::alloc::Global;
 use texts::refused::refusal_text;
@@ -30,10 +35,12 @@ pub enum Finding {
 }
 
 /// Why the table is refused.
-fn table_text(heap: Global, counts: Counts, given: usize) -> Result<String, AllocError> {
+fn table_text(heap: Global, counts: Counts, given: usize) -> Result<String, AllocError>
+    ensures { λ r. ⌜ made r (λ s. string-bytes s ≡ table-text counts given) ⌝ }
+{
     let scalars = counts.scalars;
     let arrays = counts.arrays;
-    let wanted = u64::from(scalars) + u64::from(arrays);
+    let wanted = scalars as u64 + arrays as u64;
     format!(
         heap,
         "refusal 10\nThe table has {given} levels, and {wanted} are wanted: {scalars} for the scalars and {arrays} for the arrays.\n"
@@ -48,7 +55,10 @@ fn leak_text<L: NamedLevel>(
     levels: &[L],
     listener: L,
     site: LeakSite,
-) -> Result<String, AllocError> {
+) -> Result<String, AllocError>
+    requires { ⌜ now exam .outcome ≡ Leak site ⌝ }
+    ensures { λ r. ⌜ made r (λ s. Leak-told (L·NamedLevel .named) (L·Level .order) (now (bytes .entry)) (now (levels .entry)) listener (now (exam .entry) .routine .listing) site (string-bytes s)) ⌝ }
+{
     let routine = exam.routine();
     let place = site_text(heap, routine, bytes, levels, listener, site)?;
     match leak_path(exam) {
@@ -67,7 +77,9 @@ fn finding_of<L: NamedLevel>(
     bytes: &[u8],
     levels: &[L],
     listener: L,
-) -> Result<Finding, AllocError> {
+) -> Result<Finding, AllocError>
+    ensures { λ r. ⌜ made r (λ f. Told (L·NamedLevel .named) (L·NamedLevel .told) (L·Level .order) (now (bytes .entry)) (now (exam .entry) .model) (now (levels .entry)) listener (now (exam .entry) .routine .listing) (now (exam .entry) .outcome) f) ⌝ }
+{
     let counts = counts_of(exam.routine());
     match exam.outcome() {
         Outcome::TableLength => {
@@ -107,7 +119,9 @@ pub fn clear_listing<L: NamedLevel>(
     model: Layered,
     levels: &[L],
     listener: L,
-) -> Result<Finding, AllocError> {
+) -> Result<Finding, AllocError>
+    ensures { λ r. ⌜ made r (λ f. Found (L·NamedLevel .named) (L·NamedLevel .told) (L·Level .order) (now (bytes .entry)) model (now (levels .entry)) listener f) ⌝ }
+{
     match load(bytes) {
         Ok(routine) => {
             let exam = examine(routine, model, levels, listener);

@@ -1,9 +1,0 @@
-use mathlib.Core.Path.{sym, ap}
-use Rattle.findings.specs.Models.{layer-words}
-use Rattle.findings.proofs.model.Layered.layer_words.Needs as need
-
-pub returns-then-self : need.returns-then-self
-returns-then-self c = ap layer-words (sym (c .if-self .taken))
-
-pub returns-else-self : need.returns-else-self
-returns-else-self c = ap layer-words (sym (c .if-self .left))
