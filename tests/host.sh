@@ -2,6 +2,12 @@
 # Builds the C host of verdict and runs it on the examples and on damaged listings, under valgrind where it is to be had.
 set -euo pipefail
 cd "$(dirname "$0")/.."
+for tool in make cc; do
+  if ! command -v "$tool" > /dev/null; then
+    echo "tests/host.sh: skipped, there is no $tool on this machine"
+    exit 0
+  fi
+done
 make -s host > /dev/null
 host=target/host/host
 guard=()
