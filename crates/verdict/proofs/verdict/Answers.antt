@@ -13,5 +13,5 @@ returns c =
       no_room = λ h. absurd (omega (arith, h));
       written =
           λ _.
-          (refl, (x, c.judge.ensures, ap (put_mid 0 53 room) (c.copy-from-slice.ensures.after ∙ c.slip-text-text.ensures) ∙ over_part room (slip_text x) 0 53 (length_slip x)));
+          (refl, (x, c.judge.ensures, ap (put_mid 0 53 room) (c.copy_from_slice.ensures.after ∙ c.slip_text-text.ensures) ∙ over_part room (slip_text x) 0 53 (length_slip x)));
     }

@@ -16,8 +16,8 @@ none :
     → None ≡ option_of s
 none s a b d e = simp (a, b, d, e)
 
-pub returns-in-default : goal.returns-in-default
-returns-in-default c =
+pub returns-in_default : goal.returns-in_default
+returns-in_default c =
     let w = c.args.word.now in
     none w (differs w (codes "--levels") c.in-default.not-text) (differs w (codes "--order") c.in-default.not-text-2)
     (differs w (codes "--listener") c.in-default.not-text-3) (differs w (codes "--model") c.in-default.not-text-4)

@@ -12,7 +12,7 @@ returns g c =
     let r = c.args.routine in
     let levels = c.args.levels.now in
     let x = scene o l r.listing levels c.args.listener in
-    let fit : Fitting x = c.if-levels-counts.false ∙ ap (λ (k : Counts). k.scalars + k.arrays) c.counts-of-counts.ensures.is in
+    let fit : Fitting x = c.if-levels-counts.false ∙ ap (λ (k : Counts). k.scalars + k.arrays) c.counts_of-counts.ensures.is in
     record {
       keeps = (refl, refl);
       tells =
@@ -20,12 +20,12 @@ returns g c =
             wrong_length = λ h. absurd (h fit);
             right_outcome =
                 λ _.
-                subst (RightOutcome (setting x)) (sym c.outcome-of.ensures)
+                subst (RightOutcome (setting x)) (sym c.outcome_of.ensures)
                 (right_outcome o l r levels c.args.listener fit g.met.L.Level.lawful c.reach-table.result c.reach-table.ensures
-                c.first-leak-leak.result c.first-leak-leak.ensures);
+                c.first_leak-leak.result c.first_leak-leak.ensures);
             right_opens =
                 λ _.
                 right_opens o l r levels c.args.listener fit c.reach-table.result c.reach-table.ensures c.flowing-heard.result
-                c.flowing-heard.ensures c.open-names-opens.result c.open-names-opens.ensures;
+                c.flowing-heard.ensures c.open_names-opens.result c.open_names-opens.ensures;
           };
     }

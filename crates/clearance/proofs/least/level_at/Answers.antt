@@ -18,7 +18,7 @@ returns g c =
     let p = c.args.point in
     let k = c.args.scalar in
     let t = c.reach.result in
-    let same = c.counts-of-counts.ensures.is in
+    let same = c.counts_of-counts.ensures.is in
     let fits : length levels ≡ x.listing.counts.scalars + x.listing.counts.arrays =
     c.if-levels-names.false ∙ ap (λ (n : Counts). n.scalars + n.arrays) same in
     let point : p ≤ x.listing.counts.nodes = omega (arith, ap (λ (n : Counts). n.nodes) same, c.if-point-counts.false) in
@@ -28,7 +28,7 @@ returns g c =
     fits ∙ ap (λ a. x.listing.counts.scalars + a) (sym (arrays_of x)) in (
       record { fits = fits; point = point; scalar = scalar },
       λ bit exact.
-          c.join-of.ensures ∙ ap (λ s. joined o (start_level o levels) (has s) (length levels)) c.names.ensures
+          c.join_of.ensures ∙ ap (λ s. joined o (start_level o levels) (has s) (length levels)) c.names.ensures
           ∙ ap (joined o (start_level o levels) (has (cell t p k))) long
           ∙ least_level o (routine_of x.listing) (start_level o levels) t bit c.reach.ensures exact p k inside scalar,
     )

@@ -25,19 +25,19 @@ step v ws p d w s r h is text taken =
     ∙ ap (λ t. and_then (take_word v t p d) (more v ws p)) (sym text)
     ∙ ap (λ x. and_then x (more v ws p)) (sym taken)
 
-pub returns-in-err-draft : goal.returns-in-err-draft
-returns-in-err-draft c =
+pub returns-in_err-draft : goal.returns-in_err-draft
+returns-in_err-draft c =
     let p = err_from_is_err_and c.from-residual.result c.from-residual.ensures.1 in
-    let s = step c.args.verb c.args.words.now c.loop-place.place c.loop-place.draft c.index-words-place.result c.as-str.result.now c.take.result
-    c.loop-place-test.true c.index-words-place.is c.as-str.ensures.value c.take.ensures in
-    let was = c.in-err-draft.was in
+    let s = step c.args.verb c.args.words.now c.loop-place.place c.loop-place.draft c.index-words-place.result c.as_str.result.now c.take.result
+    c.loop-place-test.true c.index-words-place.is c.as_str.ensures.value c.take.ensures in
+    let was = c.in_err-draft.was in
     p.1 ∙ ap (λ e. Err e) p.2 ∙ ap (λ r. and_then r (more c.args.verb c.args.words.now c.loop-place.place)) (sym was) ∙ sym s ∙ c.loop-place.invariant
 
 pub loop-place-preserved : goal.loop-place-preserved
 loop-place-preserved c =
-    let s = step c.args.verb c.args.words.now c.loop-place.place c.loop-place.draft c.index-words-place.result c.as-str.result.now c.take.result
-    c.loop-place-test.true c.index-words-place.is c.as-str.ensures.value c.take.ensures in
-    let was = c.in-ok-draft.was in
+    let s = step c.args.verb c.args.words.now c.loop-place.place c.loop-place.draft c.index-words-place.result c.as_str.result.now c.take.result
+    c.loop-place-test.true c.index-words-place.is c.as_str.ensures.value c.take.ensures in
+    let was = c.in_ok-draft.was in
     ap (λ r. and_then r (more c.args.verb c.args.words.now c.loop-place.place)) (sym was) ∙ sym s ∙ c.loop-place.invariant
 
 pub returns : goal.returns

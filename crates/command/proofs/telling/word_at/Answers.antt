@@ -17,7 +17,7 @@ beyond (x ∷ ws) (suc p) h = beyond ws p (omega arith)
 pub returns-then-place-words : goal.returns-then-place-words
 returns-then-place-words c =
     let w = c.index-words-place.result in
-    c.as-str.ensures.value ∙ ap string_bytes c.index-words-place.is ∙ within c.args.words.now c.args.place w c.if-place-words.true
+    c.as_str.ensures.value ∙ ap string_bytes c.index-words-place.is ∙ within c.args.words.now c.args.place w c.if-place-words.true
 
 pub returns-else-place-words : goal.returns-else-place-words
 returns-else-place-words c = beyond c.args.words.now c.args.place c.if-place-words.false

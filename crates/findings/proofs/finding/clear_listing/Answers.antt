@@ -14,7 +14,7 @@ returns-in-Ok g c =
     let told = Told g.L.NamedLevel.named g.L.NamedLevel.told g.L.Level.order c.args.bytes.now in
     let levels = c.args.levels.now in
     let heard = c.args.listener in
-    made_so c.finding-of.result (λ (f : Finding). told x.model levels heard x.routine.listing x.outcome f)
+    made_so c.finding_of.result (λ (f : Finding). told x.model levels heard x.routine.listing x.outcome f)
     (λ (f : Finding). Found g.L.NamedLevel.named g.L.NamedLevel.told g.L.Level.order c.args.bytes.now c.args.model levels heard f)
     (λ f h. inl (
       t,
@@ -27,12 +27,12 @@ returns-in-Ok g c =
       subst (λ (m : Layered). told m levels heard t x.outcome f) c.examine-exam.ensures.keeps.1
           (subst (λ (r : Routine). told x.model levels heard r.listing x.outcome f) c.examine-exam.ensures.keeps.0 h),
     ))
-    c.finding-of.ensures
+    c.finding_of.ensures
 
-pub returns-in-ok-text : goal.returns-in-ok-text
-returns-in-ok-text g c =
+pub returns-in_ok-text : goal.returns-in_ok-text
+returns-in_ok-text g c =
     inr (
       c.in-Err.fault,
       c.in-Err.ensures.is,
-      c.in-ok-text.ensures ∙ ap (refusal_text c.args.bytes.now) c.refusal.ensures,
+      c.in_ok-text.ensures ∙ ap (refusal_text c.args.bytes.now) c.refusal.ensures,
     )

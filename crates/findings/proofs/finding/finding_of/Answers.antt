@@ -8,40 +8,40 @@ use Rattle.findings.specs.Who.{who_text}
 use Rattle.findings.specs.Findings.{table_text, cleared_text, Told}
 use Rattle.findings.proofs.finding.finding_of.Goals as goal
 
-pub returns-in-ok-text : goal.returns-in-ok-text
-returns-in-ok-text g c =
+pub returns-in_ok-text : goal.returns-in_ok-text
+returns-in_ok-text g c =
     let x = c.args.exam.now in
     let levels = c.args.levels.now in
-    subst (λ (o : Outcome). Told g.L.NamedLevel.named g.L.NamedLevel.told g.L.Level.order c.args.bytes.now x.model levels c.args.listener x.routine.listing o (Refused c.in-ok-text.text))
+    subst (λ (o : Outcome). Told g.L.NamedLevel.named g.L.NamedLevel.told g.L.Level.order c.args.bytes.now x.model levels c.args.listener x.routine.listing o (Refused c.in_ok-text.text))
     c.in-TableLength.ensures
-    (c.in-ok-text.ensures
-    ∙ ap (λ (k : Counts). table_text k (length levels)) (c.counts-of-counts.ensures.is ∙ ap (λ (r : Routine). r.listing.counts) c.routine.ensures))
+    (c.in_ok-text.ensures
+    ∙ ap (λ (k : Counts). table_text k (length levels)) (c.counts_of-counts.ensures.is ∙ ap (λ (r : Routine). r.listing.counts) c.routine.ensures))
 
-pub returns-in-ok-text-2 : goal.returns-in-ok-text-2
-returns-in-ok-text-2 g c =
+pub returns-in_ok-text-2 : goal.returns-in_ok-text-2
+returns-in_ok-text-2 g c =
     let x = c.args.exam.now in
     let levels = c.args.levels.now in
     let who = who_text g.L.NamedLevel.named g.L.NamedLevel.told in
-    subst (λ (o : Outcome). Told g.L.NamedLevel.named g.L.NamedLevel.told g.L.Level.order c.args.bytes.now x.model levels c.args.listener x.routine.listing o (Cleared c.in-ok-text-2.text))
+    subst (λ (o : Outcome). Told g.L.NamedLevel.named g.L.NamedLevel.told g.L.Level.order c.args.bytes.now x.model levels c.args.listener x.routine.listing o (Cleared c.in_ok-text-2.text))
     c.in-Granted.ensures
-    (c.in-ok-text-2.ensures.made
+    (c.in_ok-text-2.ensures.made
     ∙ ap (λ (l : List ℕ). l ++ cleared_text)
-    (c.in-ok-who.ensures ∙ ap (λ (m : Layered). who m c.counts-of-counts.result.scalars levels c.args.listener) c.model.ensures
+    (c.in_ok-who.ensures ∙ ap (λ (m : Layered). who m c.counts_of-counts.result.scalars levels c.args.listener) c.model.ensures
     ∙ ap (λ (k : Counts). who x.model k.scalars levels c.args.listener)
-    (c.counts-of-counts.ensures.is ∙ ap (λ (r : Routine). r.listing.counts) c.routine.ensures)))
+    (c.counts_of-counts.ensures.is ∙ ap (λ (r : Routine). r.listing.counts) c.routine.ensures)))
 
-pub returns-in-ok-text-3 : goal.returns-in-ok-text-3
-returns-in-ok-text-3 g c =
+pub returns-in_ok-text-3 : goal.returns-in_ok-text-3
+returns-in_ok-text-3 g c =
     let x = c.args.exam.now in
     let levels = c.args.levels.now in
     let who = who_text g.L.NamedLevel.named g.L.NamedLevel.told in
-    subst (λ (o : Outcome). Told g.L.NamedLevel.named g.L.NamedLevel.told g.L.Level.order c.args.bytes.now x.model levels c.args.listener x.routine.listing o (Leaking c.in-ok-text-3.text))
+    subst (λ (o : Outcome). Told g.L.NamedLevel.named g.L.NamedLevel.told g.L.Level.order c.args.bytes.now x.model levels c.args.listener x.routine.listing o (Leaking c.in_ok-text-3.text))
     c.in-Leak.ensures (
-      string_bytes c.in-ok-leak.leak,
-      c.in-ok-leak.ensures,
-      c.in-ok-text-3.ensures.made
-          ∙ ap (λ (l : List ℕ). l ++ string_bytes c.in-ok-leak.leak)
-          (c.in-ok-who-2.ensures ∙ ap (λ (m : Layered). who m c.counts-of-counts.result.scalars levels c.args.listener) c.model-in-Leak.ensures
+      string_bytes c.in_ok-leak.leak,
+      c.in_ok-leak.ensures,
+      c.in_ok-text-3.ensures.made
+          ∙ ap (λ (l : List ℕ). l ++ string_bytes c.in_ok-leak.leak)
+          (c.in_ok-who-2.ensures ∙ ap (λ (m : Layered). who m c.counts_of-counts.result.scalars levels c.args.listener) c.model-in-Leak.ensures
           ∙ ap (λ (k : Counts). who x.model k.scalars levels c.args.listener)
-          (c.counts-of-counts.ensures.is ∙ ap (λ (r : Routine). r.listing.counts) c.routine.ensures)),
+          (c.counts_of-counts.ensures.is ∙ ap (λ (r : Routine). r.listing.counts) c.routine.ensures)),
     )

@@ -9,14 +9,14 @@ pub returns : goal.returns
 returns g c =
     let t = c.args.routine.now.listing in
     let x = c.args.site in
-    let counts = c.counts-of-counts.ensures.is in
+    let counts = c.counts_of-counts.ensures.is in
     let told = reason_text g.L.NamedLevel.named g.L.Level.order in
     let levels = c.args.levels.now in
     let heard = c.args.listener in
     retold string_bytes c.format.result _ _
     (both _ _ _ _
-    (c.in-ok-place.ensures ∙ ap (λ (k : Counts). place_text c.args.bytes.now k.arrays x) counts)
-    (c.in-ok-reason.ensures ∙ ap (λ (k : Counts). told k.scalars levels heard x.name c.bound-array-array.result) counts
-    ∙ ap (told t.counts.scalars levels heard x.name) c.bound-array-array.ensures
-    ∙ ap (λ (n : Node). told t.counts.scalars levels heard x.name (bound_array x.bound n)) c.node-at.ensures.is))
+    (c.in_ok-place.ensures ∙ ap (λ (k : Counts). place_text c.args.bytes.now k.arrays x) counts)
+    (c.in_ok-reason.ensures ∙ ap (λ (k : Counts). told k.scalars levels heard x.name c.bound_array-array.result) counts
+    ∙ ap (told t.counts.scalars levels heard x.name) c.bound_array-array.ensures
+    ∙ ap (λ (n : Node). told t.counts.scalars levels heard x.name (bound_array x.bound n)) c.node_at.ensures.is))
     c.format.ensures.ok

@@ -6,7 +6,7 @@ use Rattle.findings.proofs.way.steps_text.Goals as goal
 
 pub loop-index-preserved : goal.loop-index-preserved
 loop-index-preserved c =
-    turned (string_bytes c.loop-index.out) _ _ _ (string_bytes c.push-str.new.self) _
-    (onto_is _ _ _ _ (c.as-str.ensures.value ∙ c.in-ok-row.ensures) c.in-ok-push-str.ensures.bytes)
+    turned (string_bytes c.loop-index.out) _ _ _ (string_bytes c.push_str.new.self) _
+    (onto_is _ _ _ _ (c.as_str.ensures.value ∙ c.in_ok-row.ensures) c.in_ok-push_str.ensures.bytes)
     (way_step (routine_of c.args.routine.now.listing) c.args.path.now _ c.loop-index.index c.loop-index-test.true)
     c.loop-index.invariant

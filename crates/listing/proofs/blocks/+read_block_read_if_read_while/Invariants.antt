@@ -2,19 +2,19 @@ use Rattle.std.proofs.Common.{◌≡◌, ◌+◌, ◌-◌, ◌*◌, ◌≤◌, L
 use Rattle.listing.specs.Blocks.{Open, scan_from}
 use Rattle.listing.proofs.blocks.+read_block_read_if_read_while.Given as goal
 
-abbrev pub decreases-read-block : goal.decreases-read-block
-decreases-read-block l = 2 * l.depth + 1
+abbrev pub decreases-read_block : goal.decreases-read_block
+decreases-read_block l = 2 * l.depth + 1
 
-abbrev pub decreases-read-if : goal.decreases-read-if
-decreases-read-if l = 2 * l.depth
+abbrev pub decreases-read_if : goal.decreases-read_if
+decreases-read_if l = 2 * l.depth
 
-abbrev pub decreases-read-while : goal.decreases-read-while
-decreases-read-while l = 2 * l.depth
+abbrev pub decreases-read_while : goal.decreases-read_while
+decreases-read_while l = 2 * l.depth
 
-abbrev pub invariant-read-block-loop-at : goal.invariant-read-block-loop-at
-invariant-read-block-loop-at l =
+abbrev pub invariant-read_block-loop-at : goal.invariant-read_block-loop-at
+invariant-read_block-loop-at l =
     (l.from ≤ l.at) × (l.at ≤ l.counts.nodes)
     × ((st : List Open) → length st + l.depth ≡ 16 → scan_from l.bytes l.counts l.from st l.initial.nodes ≡ scan_from l.bytes l.counts l.at st l.nodes)
 
-abbrev pub decreases-read-block-loop-at : goal.decreases-read-block-loop-at
-decreases-read-block-loop-at l = l.counts.nodes - l.at
+abbrev pub decreases-read_block-loop-at : goal.decreases-read_block-loop-at
+decreases-read_block-loop-at l = l.counts.nodes - l.at

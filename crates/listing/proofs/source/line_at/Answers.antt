@@ -6,4 +6,4 @@ pub returns : goal.returns
 returns c =
     let s = c.args.bytes.now in
     let line = c.args.line in
-    ap (λ lines. get_or lines line []) c.as-chunks.ensures.front ∙ cut_at (length s / 51) line s [] (omega arith)
+    ap (λ lines. get_or lines line []) c.as_chunks.ensures.front ∙ cut_at (length s / 51) line s [] (omega arith)

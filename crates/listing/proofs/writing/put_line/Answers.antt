@@ -9,5 +9,5 @@ returns c =
     let s = c.args.room.now in
     let at = c.args.at in
     let e : 51 ≡ at + 51 - at = omega arith in
-    ap (put_mid at (at + 51 - at) s) (c.copy-from-slice.ensures.after ∙ c.line-text-text.ensures)
+    ap (put_mid at (at + 51 - at) s) (c.copy_from_slice.ensures.after ∙ c.line_text-text.ensures)
     ∙ over_part s (line_text c.args.line) at (at + 51 - at) (length_line c.args.line ∙ e)

@@ -5,5 +5,5 @@ use Rattle.path.proofs.hunt.note_all.Goals as goal
 pub loop-point-preserved : goal.loop-point-preserved
 loop-point-preserved c =
     let l = c.args.routine.now.listing in
-    point_noted (routine_of l) c.args.hunt.now c.args.index c.requires.1 c.loop-point.hunt c.note-at.new.hunt c.loop-point.point
-    l.counts.scalars c.loop-point.invariant.0 c.loop-point.invariant.1 c.note-at.ensures.extends c.note-at.ensures.met
+    point_noted (routine_of l) c.args.hunt.now c.args.index c.requires.1 c.loop-point.hunt c.note_at.new.hunt c.loop-point.point
+    l.counts.scalars c.loop-point.invariant.0 c.loop-point.invariant.1 c.note_at.ensures.extends c.note_at.ensures.met

@@ -12,8 +12,8 @@ use Rattle.path.proofs.hunt.note_at.Goals.{then-carries, else-carries}
 
 pub note-requires : goal.note-requires
 note-requires c =
-    let same = ap (λ (k : Counts). k.nodes) c.counts-of-counts.ensures.is in
-    let few = c.counts-of-counts.ensures.within in
+    let same = ap (λ (k : Counts). k.nodes) c.counts_of-counts.ensures.is in
+    let few = c.counts_of-counts.ensures.within in
     (c.loop-scalar.invariant.0.trailed, (omega (arith, c.requires.1.1, same, few.nodes), omega (arith, c.loop-scalar-test.true, few.scalars)))
 
 pub loop-scalar-init : goal.loop-scalar-init
@@ -30,10 +30,10 @@ loop-scalar-preserved c =
     let p = c.args.point in
     let k = c.loop-scalar.scalar in
     let to = place_at old i in
-    let same = c.counts-of-counts.ensures.is in
+    let same = c.counts_of-counts.ensures.is in
     let inside : k < l.counts.scalars = omega (arith, ap (λ (x : Counts). x.scalars) same, c.loop-scalar-test.true) in
-    let within : p < end r = omega (arith, c.requires.1.1, ap (λ (x : Counts). x.nodes) same, c.counts-of-counts.ensures.ends) in
-    let is = c.node-at-node.ensures.is in
+    let within : p < end r = omega (arith, c.requires.1.1, ap (λ (x : Counts). x.nodes) same, c.counts_of-counts.ensures.ends) in
+    let is = c.node_at-node.ensures.is in
     let goes : Next (node r p) p to.point = subst (λ n. Next n p to.point) is (c.goes.ensures.0 c.if-goes.true) in
     elim c.if-carries.branch [
       | then-carries w ↦

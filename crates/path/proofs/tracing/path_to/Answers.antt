@@ -17,9 +17,9 @@ returns-then-point-counts c x =
     let r = routine_of loaded.listing in
     let point : c.args.point ≤ end r = reached_point r (formed_of loaded) x in
     let scalar : c.args.scalar < loaded.listing.counts.scalars = reached_scalar r (formed_of loaded) x in
-    let same = ap (λ (k : Counts). k.scalars) c.counts-of-counts.ensures.is in
+    let same = ap (λ (k : Counts). k.scalars) c.counts_of-counts.ensures.is in
     elim c.then-point-counts.either [
-      | inl h ↦ omega (arith, h, c.counts-of-counts.ensures.ends)
+      | inl h ↦ omega (arith, h, c.counts_of-counts.ensures.ends)
       | inr h ↦ omega (arith, h.1, same)
     ]
 
@@ -34,8 +34,8 @@ returns-in-Some c =
 pub loop-index-preserved : goal.loop-index-preserved
 loop-index-preserved c =
     let r = routine_of c.args.routine.now.listing in
-    hunting_more r c.args.name (at_place c.args.point c.args.scalar) c.loop-index.hunt c.note-all.new.hunt c.loop-index.index
-    c.loop-index.invariant c.loop-index-test.true c.in-default.ensures c.note-all.ensures.extends c.note-all.ensures.met
+    hunting_more r c.args.name (at_place c.args.point c.args.scalar) c.loop-index.hunt c.note_all.new.hunt c.loop-index.index
+    c.loop-index.invariant c.loop-index-test.true c.in_default.ensures c.note_all.ensures.extends c.note_all.ensures.met
 
 pub returns : goal.returns
 returns c =

@@ -10,8 +10,8 @@ read x t n r e h = subst (λ y. Probed y n r) (sym e) h
 
 pub returns-in-Ok : goal.returns-in-Ok
 returns-in-Ok c =
-    let x = c.public-exam.ensures in
-    let o = c.public-exam.result.outcome in
+    let x = c.public_exam.ensures in
+    let o = c.public_exam.result.outcome in
     let n = length c.args.lines.now in
     read _ c.in-Ok.routine.listing n _ c.in-Ok.ensures.is
-    (o, x.right, c.steps-made.ensures ∙ ap (λ (u : Routine). made_steps o u.listing n) x.keeps)
+    (o, x.right, c.steps_made.ensures ∙ ap (λ (u : Routine). made_steps o u.listing n) x.keeps)

@@ -2,4 +2,4 @@ use Rattle.reach.proofs.Starts.{started_work}
 use Rattle.reach.proofs.filling.started.Goals as goal
 
 pub returns : goal.returns
-returns c = started_work c.args.scalars c.empty-row-empty.result c.start-row.result c.empty-row-empty.ensures c.start-row.ensures
+returns c = started_work c.args.scalars c.empty_row-empty.result c.start_row.result c.empty_row-empty.ensures c.start_row.ensures

@@ -23,9 +23,9 @@ loop-point-preserved c =
     → (Has v x
     ↔ (((x < k.scalars) × ((name : ℕ) → Has (at row x) name → Has heard name))
     ⊎ ((k.scalars ≤ x) × (x < k.scalars + k.arrays) × Has heard x))))
-    c.counts-of-counts.ensures.is
-    (λ x. either_told (c.union.ensures.either x) (c.open-scalars-scalars.ensures x) (c.open-arrays-arrays.ensures x)) in (
+    c.counts_of-counts.ensures.is
+    (λ x. either_told (c.union.ensures.either x) (c.open_scalars-scalars.ensures x) (c.open_arrays-arrays.ensures x)) in (
       length-set xs here v ∙ i.0,
       told_more (λ p x. OpenBy l (λ name k. Has (cell c.args.table.now p k) name) heard x) xs here v
-          (omega (arith, i.0, c.loop-point-test.true, c.counts-of-counts.ensures.within.nodes)) i.1 told,
+          (omega (arith, i.0, c.loop-point-test.true, c.counts_of-counts.ensures.within.nodes)) i.1 told,
     )

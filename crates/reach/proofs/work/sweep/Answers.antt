@@ -12,12 +12,12 @@ loop-point-preserved c =
     let old = c.args.work.now in
     let mid = c.loop-point.work in
     let i = c.loop-point.point in
-    let within : i < end r = omega (arith, c.loop-point-test.true, c.counts-of-counts.ensures.ends) in
+    let within : i < end r = omega (arith, c.loop-point-test.true, c.counts_of-counts.ensures.ends) in
     elim c.if-work-point.branch [
       | then-work-point w ↦
           subst₂ (λ n a. Sweeping r old n (i + 1) a) (sym w.work-is) (sym w.again-is)
-          (swept_on r old mid i c.loop-point.again c.loop-point.invariant w.pass-on-again.new.work w.pass-on-again.result within
-          w.pass-on-again.ensures)
+          (swept_on r old mid i c.loop-point.again c.loop-point.invariant w.pass_on-again.new.work w.pass_on-again.result within
+          w.pass_on-again.ensures)
       | else-work-point w ↦
           subst₂ (λ n a. Sweeping r old n (i + 1) a) (sym w.work-is) (sym w.again-is)
           (swept_past r old mid i c.loop-point.again c.loop-point.invariant w.if-work-point.false)

@@ -6,13 +6,13 @@ use Rattle.report.proofs.record.regions_text.Goals as goal
 
 pub loop-number-init : goal.loop-number-init
 loop-number-init c =
-    let headed = c.in-ok-push-str.ensures.bytes ∙ ap (λ (l : List ℕ). l ++ regions_heading) c.new-out.ensures.bytes in
+    let headed = c.in_ok-push_str.ensures.bytes ∙ ap (λ (l : List ℕ). l ++ regions_heading) c.new-out.ensures.bytes in
     ap (λ (l : List ℕ). l ++ region_rows 0 c.args.regions.now) headed
 
 pub loop-number-preserved : goal.loop-number-preserved
 loop-number-preserved c =
     turned (string_bytes c.loop-number.out) _ _ _ _ _
-    (onto_is _ _ _ _ (c.as-str.ensures.value ∙ c.in-ok-row.ensures) c.in-ok-push-str-2.ensures.bytes)
+    (onto_is _ _ _ _ (c.as_str.ensures.value ∙ c.in_ok-row.ensures) c.in_ok-push_str-2.ensures.bytes)
     (region_step c.args.regions.now c.loop-number.number (record { start = 0; length = 0 }) c.loop-number-test.true)
     c.loop-number.invariant
 
@@ -20,4 +20,4 @@ pub returns : goal.returns
 returns c =
     let gs = c.args.regions.now in
     let whole = ended _ _ _ (regions_all gs c.loop-number.number c.loop-number-test.false) c.loop-number.invariant in
-    whole ∙ some_regions gs (omega (arith, false-eqb (length gs) 0 c.if-is-empty.ensures))
+    whole ∙ some_regions gs (omega (arith, false-eqb (length gs) 0 c.if-is_empty.ensures))

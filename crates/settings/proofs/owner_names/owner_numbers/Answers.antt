@@ -3,7 +3,7 @@ use Rattle.texts.proofs.Adding.{onto_is, turned, ended}
 use Rattle.settings.specs.Names.{owner_numbers, all_numbers, separator}
 use Rattle.settings.proofs.Numbering.{number_step, number_pass, numbers_all, all_is}
 use Rattle.settings.proofs.owner_names.owner_numbers.Goals as goal
-use Rattle.settings.proofs.owner_names.owner_numbers.Goals.{then-left-eq1+in-ok-number+in-ok-push-str, else-left-eq1}
+use Rattle.settings.proofs.owner_names.owner_numbers.Goals.{then-left-eq1+in_ok-number+in_ok-push_str, else-left-eq1}
 
 pub loop-owner-init : goal.loop-owner-init
 loop-owner-init c =
@@ -20,12 +20,12 @@ loop-owner-preserved c =
     let k = c.loop-owner.owner-counter in
     let out = string_bytes c.if-left-eq1.out in
     elim c.if-left-eq1.branch [
-      | then-left-eq1+in-ok-number+in-ok-push-str w ↦
+      | then-left-eq1+in_ok-number+in_ok-push_str w ↦
           flagged out _ false (s / 2) (k + 1) _ w.first-is
           (turned (string_bytes c.loop-owner.out) _ _ _ out _
           (ap string_bytes w.out-is ∙ onto_is _ _ _ _
-          (w.as-str.ensures.value ∙ w.in-ok-number.ensures.ok ∙ ap (λ (l : List ℕ). l ++ decimal k) w.separator-before.ensures)
-          w.in-ok-push-str.ensures.bytes)
+          (w.as_str.ensures.value ∙ w.in_ok-number.ensures.ok ∙ ap (λ (l : List ℕ). l ++ decimal k) w.separator-before.ensures)
+          w.in_ok-push_str.ensures.bytes)
           (number_step f s k c.loop-owner-test.true w.if-left-eq1.true)
           c.loop-owner.invariant)
       | else-left-eq1 w ↦

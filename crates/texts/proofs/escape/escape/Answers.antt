@@ -8,8 +8,8 @@ loop-byte-init c = ap (λ l. l ++ escaped_text c.args.bytes.now) c.new-out.ensur
 
 pub loop-byte-preserved : goal.loop-byte-preserved
 loop-byte-preserved c =
-    turned (string_bytes c.loop-byte.out) _ _ _ (string_bytes c.put-byte.new.out) _
-    c.in-ok-put-byte.ensures
+    turned (string_bytes c.loop-byte.out) _ _ _ (string_bytes c.put_byte.new.out) _
+    c.in_ok-put_byte.ensures
     (escaped_step c.args.bytes.now c.loop-byte.byte-index c.loop-byte-test.true)
     c.loop-byte.invariant
 

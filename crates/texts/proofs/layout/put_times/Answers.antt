@@ -9,8 +9,8 @@ loop-init c = ap (λ n. string_bytes c.args.out.now ++ times n c.args.text.now) 
 
 pub loop-preserved : goal.loop-preserved
 loop-preserved c =
-    turned (string_bytes c.loop.out) _ _ _ (string_bytes c.push-str.new.self) _
-    c.in-ok-push-str.ensures.bytes
+    turned (string_bytes c.loop.out) _ _ _ (string_bytes c.push_str.new.self) _
+    c.in_ok-push_str.ensures.bytes
     (times_step c.args.count c.loop.counter c.args.text.now c.loop-test.true)
     c.loop.invariant
 

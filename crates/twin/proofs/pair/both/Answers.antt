@@ -12,18 +12,18 @@ returns g c =
     let w = g.M.LeakageModel.leakage in
     let m = c.args.memories in
     let j : Journal =
-    journal m.first c.args.calls.now c.args.log.answers.now c.run-both.new.answers c.args.log.lines.now c.run-both.new.lines in
+    journal m.first c.args.calls.now c.args.log.answers.now c.run_both.new.answers c.args.log.lines.now c.run_both.new.lines in
     let k : Journal =
-    journal m.second c.args.others.now c.args.copy.answers.now c.run-both.new.replies c.args.copy.lines.now c.run-both.new.traces in
-    let room : both_room j k ≡ true = sym c.room-for-both.ensures ∙ c.if-not-room-for-both.false in
+    journal m.second c.args.others.now c.args.copy.answers.now c.run_both.new.replies c.args.copy.lines.now c.run_both.new.traces in
+    let room : both_room j k ≡ true = sym c.room_for_both.ensures ∙ c.if-not-room_for_both.false in
     let cleared = c.in-Ok.ensures in
     let granted : is_granted e.outcome ≡ true = cleared.2 in
-    let made = c.run-both.ensures in
+    let made = c.run_both.ensures in
     let one : Logged (terms_of w e) (start_of j) j = subst (λ y. Logged (terms_of w y) (start_of j) j) cleared.0 made.first in
     let two : Logged (terms_of w e) (start_of k) k = subst (λ y. Logged (terms_of w y) (start_of k) k) cleared.1 made.second in
-    let at : state_of c.run-both.result.first.run ≡ stop_of e.routine.listing j =
+    let at : state_of c.run_both.result.first.run ≡ stop_of e.routine.listing j =
     made.state ∙ ap (λ y. stop_of y.routine.listing j) cleared.0 in
-    let at' : state_of c.run-both.result.second.run ≡ stop_of e.routine.listing k =
+    let at' : state_of c.run_both.result.second.run ≡ stop_of e.routine.listing k =
     made.other ∙ ap (λ y. stop_of y.routine.listing k) cleared.1 in
     let s : length m.first.scalars ≡ 24 = search rules in
     let d : length m.first.cells ≡ 512 = search rules in

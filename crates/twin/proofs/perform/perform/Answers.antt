@@ -7,13 +7,13 @@ use Rattle.twin.proofs.perform.perform.Goals as goal
 pub loop-i-init : goal.loop-i-init
 loop-i-init g c = (refl, along_none _ _ _ _ _ (rooms _ _ _ c.requires).1)
 
-pub overflow-add-end : goal.overflow-add-end
-overflow-add-end g c =
+pub overflow_add-end : goal.overflow_add-end
+overflow_add-end g c =
     let r = room_for _ _ _ _ _ _ _ _ _ _ c.loop-i.invariant.1 c.loop-i-test.true in
     let f : c.loop-i.used + c.places.result ≤ length c.loop-i.lines = omega (arith, c.places.ensures, r) in search rules
 
-pub slice-bounds-make-end : goal.slice-bounds-make-end
-slice-bounds-make-end g c =
+pub slice_bounds-make-end : goal.slice_bounds-make-end
+slice_bounds-make-end g c =
     let r = room_for _ _ _ _ _ _ _ _ _ _ c.loop-i.invariant.1 c.loop-i-test.true in
     let f : c.loop-i.used + c.places.result ≤ length c.loop-i.lines = omega (arith, c.places.ensures, r) in search rules
 

@@ -4,4 +4,4 @@ use Rattle.twin.proofs.trying.trial.Goals as goal
 pub returns : goal.returns
 returns g c =
     let exam = c.examine-exam.ensures in
-    tried _ g.M.LeakageModel.leakage _ _ _ _ _ _ _ exam.keeps exam.tells _ _ c.in-Ok.ensures c.close-both.ensures.first c.close-both.ensures.second
+    tried _ g.M.LeakageModel.leakage _ _ _ _ _ _ _ exam.keeps exam.tells _ _ c.in-Ok.ensures c.close_both.ensures.first c.close_both.ensures.second

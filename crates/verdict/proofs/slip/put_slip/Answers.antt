@@ -11,14 +11,14 @@ pub returns : goal.returns
 returns c =
     let x = c.args.slip in
     let s = c.args.room.now in
-    let s₁ = put_mid 0 8 s c.copy-from-slice.new.self in
-    let same : c.numbers-of-numbers.result ≡ _ = c.numbers-of-numbers.ensures in
+    let s₁ = put_mid 0 8 s c.copy_from_slice.new.self in
+    let same : c.numbers_of-numbers.result ≡ _ = c.numbers_of-numbers.ensures in
     let number = λ (at i : _) (r : _). ap (λ ns. over at (number_column 11 (get_or ns i 0)) r) same in
-    pieced x s s₁ c.put-number.new.room c.put-number-2.new.room c.put-number-3.new.room c.put-number-4.new.room _
+    pieced x s s₁ c.put_number.new.room c.put_number-2.new.room c.put_number-3.new.room c.put_number-4.new.room _
     c.requires
-    (ap (put_mid 0 8 s) (c.copy-from-slice.ensures.after ∙ c.word-of-word.ensures) ∙ over_part s (slip_word x) 0 8 (length_word x))
-    (c.put-number.ensures ∙ number 8 0 s₁)
-    (c.put-number-2.ensures ∙ number 19 1 c.put-number.new.room)
-    (c.put-number-3.ensures ∙ number 30 2 c.put-number-2.new.room)
-    (c.put-number-4.ensures ∙ number 41 3 c.put-number-3.new.room)
-    (over_byte c.put-number-4.new.room 52 10 (omega arith))
+    (ap (put_mid 0 8 s) (c.copy_from_slice.ensures.after ∙ c.word_of-word.ensures) ∙ over_part s (slip_word x) 0 8 (length_word x))
+    (c.put_number.ensures ∙ number 8 0 s₁)
+    (c.put_number-2.ensures ∙ number 19 1 c.put_number.new.room)
+    (c.put_number-3.ensures ∙ number 30 2 c.put_number-2.new.room)
+    (c.put_number-4.ensures ∙ number 41 3 c.put_number-3.new.room)
+    (over_byte c.put_number-4.new.room 52 10 (omega arith))

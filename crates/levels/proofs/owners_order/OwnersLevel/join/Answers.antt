@@ -3,8 +3,8 @@ use lib.Bits.{or_lt}
 use Rattle.levels.specs.OwnersLaws.{same_owners}
 use Rattle.levels.proofs.owners_order.OwnersLevel.join.Goals as goal
 
-pub invariant-of-result : goal.invariant-of-result
-invariant-of-result c = (or_lt 16 c.args.self.set c.args.other.set c.args.self.within c.args.other.within, tt)
+pub invariant_of-result : goal.invariant_of-result
+invariant_of-result c = (or_lt 16 c.args.self.set c.args.other.set c.args.self.within c.args.other.within, tt)
 
 pub returns : goal.returns
 returns c = same_owners _ _ refl

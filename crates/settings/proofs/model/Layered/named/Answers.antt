@@ -20,10 +20,10 @@ none :
     → None ≡ model_named s
 none s a b d e f g h i = simp (a, b, d, e, f, g, h, i)
 
-pub returns-in-default : goal.returns-in-default
-returns-in-default c =
+pub returns-in_default : goal.returns-in_default
+returns-in_default c =
     let w = c.args.word.now in
-    none w (differs w (codes "pc") c.in-default.not-pc) (differs w (codes "baseline") c.in-default.not-baseline)
-    (differs w (codes "line16") c.in-default.not-line16) (differs w (codes "line8") c.in-default.not-line8)
-    (differs w (codes "tv+pc") c.in-default.not-text) (differs w (codes "tv+baseline") c.in-default.not-text-2)
-    (differs w (codes "tv+line16") c.in-default.not-text-3) (differs w (codes "tv+line8") c.in-default.not-text-4)
+    none w (differs w (codes "pc") c.in_default.not-pc) (differs w (codes "baseline") c.in_default.not-baseline)
+    (differs w (codes "line16") c.in_default.not-line16) (differs w (codes "line8") c.in_default.not-line8)
+    (differs w (codes "tv+pc") c.in_default.not-text) (differs w (codes "tv+baseline") c.in_default.not-text-2)
+    (differs w (codes "tv+line16") c.in_default.not-text-3) (differs w (codes "tv+line8") c.in_default.not-text-4)
