@@ -20,7 +20,7 @@ pub fn examine<L: Level, M: LeakageModel>(
     listener: L,
 ) -> Examination<M>
     ensures keeps { (result.routine ≡ routine) × (result.model ≡ model) }
-    ensures tells { Examined (scene L.Level.order (M.LeakageModel.leakage model) routine.listing levels.now listener) result }
+    ensures tells { Examined (scene L.order (M.leakage model) routine.listing levels.now listener) result }
 {
     let counts = counts_of(&routine);
     if levels.len() != (counts.scalars + counts.arrays) as usize {

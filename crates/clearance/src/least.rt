@@ -8,7 +8,7 @@ use reach::{counts_of, reach};
 
 /// The level of the scalar at the point in the least table; none where the level table has another length or there is no such point or scalar.
 pub fn level_at<L: Level>(routine: &Routine, levels: &[L], point: usize, scalar: usize) -> Option<L>
-    ensures { LevelAnswer L.Level.order routine.now.listing levels.now point scalar result }
+    ensures { LevelAnswer L.order routine.now.listing levels.now point scalar result }
 {
     let counts = counts_of(routine);
     let names = (counts.scalars + counts.arrays) as usize;

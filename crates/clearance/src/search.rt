@@ -27,8 +27,8 @@ fn write_leak<L: Level, M: LeakageModel>(
     index: u32,
     value: u32,
 ) -> Option<LeakSite>
-    requires { (Ready (scene L.Level.order (M.LeakageModel.leakage model) routine.now.listing levels.now listener) table.now heard) × ((point < 128) × (OperandsExist routine.now.listing.counts.scalars routine.now.listing.counts.arrays (Write array index value))) }
-    ensures { NodeAnswer (setting (scene L.Level.order (M.LeakageModel.leakage model) routine.now.listing levels.now listener)) point (Write array index value) result }
+    requires { (Ready (scene L.order (M.leakage model) routine.now.listing levels.now listener) table.now heard) × ((point < 128) × (OperandsExist routine.now.listing.counts.scalars routine.now.listing.counts.arrays (Write array index value))) }
+    ensures { NodeAnswer (setting (scene L.order (M.leakage model) routine.now.listing levels.now listener)) point (Write array index value) result }
 {
     let counts = counts_of(routine);
     let stored = flowing(levels, levels[(counts.scalars + array) as usize]);
@@ -51,8 +51,8 @@ fn node_leak<L: Level, M: LeakageModel>(
     heard: NameSet,
     point: usize,
 ) -> Option<LeakSite>
-    requires { (Ready (scene L.Level.order (M.LeakageModel.leakage model) routine.now.listing levels.now listener) table.now heard) × (point < routine.now.listing.counts.nodes) }
-    ensures { NodeAnswer (setting (scene L.Level.order (M.LeakageModel.leakage model) routine.now.listing levels.now listener)) point (node (routine_of routine.now.listing) point) result }
+    requires { (Ready (scene L.order (M.leakage model) routine.now.listing levels.now listener) table.now heard) × (point < routine.now.listing.counts.nodes) }
+    ensures { NodeAnswer (setting (scene L.order (M.leakage model) routine.now.listing levels.now listener)) point (node (routine_of routine.now.listing) point) result }
 {
     let counts = counts_of(routine);
     match node_at(routine, point) {
@@ -103,8 +103,8 @@ pub(crate) fn first_leak<L: Level, M: LeakageModel>(
     table: &ReachTable,
     heard: NameSet,
 ) -> Option<LeakSite>
-    requires { Ready (scene L.Level.order (M.LeakageModel.leakage model) routine.now.listing levels.now listener) table.now heard }
-    ensures { LeakAnswer (setting (scene L.Level.order (M.LeakageModel.leakage model) routine.now.listing levels.now listener)) result }
+    requires { Ready (scene L.order (M.leakage model) routine.now.listing levels.now listener) table.now heard }
+    ensures { LeakAnswer (setting (scene L.order (M.leakage model) routine.now.listing levels.now listener)) result }
 {
     let counts = counts_of(routine);
     for point in 0..counts.nodes as usize {

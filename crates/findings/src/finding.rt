@@ -48,7 +48,7 @@ fn leak_text<L: NamedLevel>(
     site: LeakSite,
 ) -> Result<String, AllocError>
     requires { exam.now.outcome ≡ Leak site }
-    ensures { IfOk result (λ s. LeakTold L.NamedLevel.named L.Level.order bytes.now levels.now listener exam.now.routine.listing site (string_bytes s)) }
+    ensures { IfOk result (λ s. LeakTold L.named L.order bytes.now levels.now listener exam.now.routine.listing site (string_bytes s)) }
 {
     let routine = exam.routine();
     let place = site_text(heap, routine, bytes, levels, listener, site)?;
@@ -69,7 +69,7 @@ fn finding_of<L: NamedLevel>(
     levels: &[L],
     listener: L,
 ) -> Result<Finding, AllocError>
-    ensures { IfOk result (λ f. Told L.NamedLevel.named L.NamedLevel.told L.Level.order bytes.now exam.now.model levels.now listener exam.now.routine.listing exam.now.outcome f) }
+    ensures { IfOk result (λ f. Told L.named L.told L.order bytes.now exam.now.model levels.now listener exam.now.routine.listing exam.now.outcome f) }
 {
     let counts = counts_of(exam.routine());
     match exam.outcome() {
@@ -111,7 +111,7 @@ pub fn clear_listing<L: NamedLevel>(
     levels: &[L],
     listener: L,
 ) -> Result<Finding, AllocError>
-    ensures { IfOk result (λ f. Found L.NamedLevel.named L.NamedLevel.told L.Level.order bytes.now model levels.now listener f) }
+    ensures { IfOk result (λ f. Found L.named L.told L.order bytes.now model levels.now listener f) }
 {
     match load(bytes) {
         Ok(routine) => {

@@ -54,7 +54,7 @@ fn bound_array(bound: u32, node: Node) -> Option<u32>
 
 /// The start level of the name; the least where the table has none.
 fn level_of<L: Level>(levels: &[L], name: usize) -> L
-    ensures { result ≡ start_level order levels.now name }
+    ensures { result ≡ start_level L.order levels.now name }
 {
     if name < levels.len() {
         levels[name]
@@ -71,7 +71,7 @@ fn bound_text<L: NamedLevel>(
     listener: L,
     array: Option<u32>,
 ) -> Result<String, AllocError>
-    ensures { IfOk result (λ s. string_bytes s ≡ bound_text L.NamedLevel.named L.Level.order scalars levels.now listener array) }
+    ensures { IfOk result (λ s. string_bytes s ≡ bound_text L.named L.order scalars levels.now listener array) }
 {
     match array {
         Some(array) => {
@@ -105,7 +105,7 @@ fn reason_text<L: NamedLevel>(
     name: u32,
     array: Option<u32>,
 ) -> Result<String, AllocError>
-    ensures { IfOk result (λ s. string_bytes s ≡ reason_text L.NamedLevel.named L.Level.order scalars levels.now listener name array) }
+    ensures { IfOk result (λ s. string_bytes s ≡ reason_text L.named L.order scalars levels.now listener name array) }
 {
     let start = start_name(heap, scalars as usize, name as usize)?;
     let level = level_of(levels, name as usize).name(heap)?;
@@ -124,7 +124,7 @@ pub(crate) fn site_text<L: NamedLevel>(
     listener: L,
     site: LeakSite,
 ) -> Result<String, AllocError>
-    ensures { IfOk result (λ s. string_bytes s ≡ site_text L.NamedLevel.named L.Level.order routine.now.listing bytes.now levels.now listener site) }
+    ensures { IfOk result (λ s. string_bytes s ≡ site_text L.named L.order routine.now.listing bytes.now levels.now listener site) }
 {
     let counts = counts_of(routine);
     let array = bound_array(site.bound, node_at(routine, site.node as usize));

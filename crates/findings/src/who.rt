@@ -27,7 +27,7 @@ fn level_row<L: NamedLevel>(
     name: usize,
     level: L,
 ) -> Result<String, AllocError>
-    ensures { IfOk result (λ s. string_bytes s ≡ level_row scalars name (L.NamedLevel.named level)) }
+    ensures { IfOk result (λ s. string_bytes s ≡ level_row scalars name (L.named level)) }
 {
     let name = start_name(heap, scalars, name)?;
     let level = level.name(heap)?;
@@ -42,7 +42,7 @@ fn level_rows<L: NamedLevel>(
     scalars: usize,
     levels: &[L],
 ) -> Result<String, AllocError>
-    ensures { IfOk result (λ s. string_bytes s ≡ level_rows L.NamedLevel.named scalars 0 levels.now) }
+    ensures { IfOk result (λ s. string_bytes s ≡ level_rows L.named scalars 0 levels.now) }
 {
     let mut out = String::new(heap);
     for name in 0..levels.len() {
@@ -60,7 +60,7 @@ pub(crate) fn who_text<L: NamedLevel>(
     levels: &[L],
     listener: L,
 ) -> Result<String, AllocError>
-    ensures { IfOk result (λ s. string_bytes s ≡ who_text L.NamedLevel.named L.NamedLevel.told model scalars levels.now listener) }
+    ensures { IfOk result (λ s. string_bytes s ≡ who_text L.named L.told model scalars levels.now listener) }
 {
     let order = L::order_words();
     let listener = listener.name(heap)?;

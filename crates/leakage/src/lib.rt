@@ -1,4 +1,5 @@
 //! Leakage models: what a listener hears of each step.
+#![tactic(auto)]
 
 mod baseline;
 mod cache_line;

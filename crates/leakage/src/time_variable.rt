@@ -34,9 +34,9 @@ fn takes_time(operator: Operator) -> bool
 }
 
 impl<M: LeakageModel> LeakageModel for TimeVariable<M> {
-    ghost leakage = { λ t. time_variable (M.LeakageModel.leakage t.below) };
+    ghost leakage = { λ t. time_variable (M.leakage t.below) };
 
-    ghost honest = { λ m. time_honest _ (M.LeakageModel.honest m.below) };
+    ghost honest = { λ m. time_honest _ (M.honest m.below) };
 
     fn watches_operand(self, operator: Operator, side: Side) -> bool {
         takes_time(operator) || self.below.watches_operand(operator, side)

@@ -1,12 +1,12 @@
 -- The sets of owners keep the laws. Assumes nothing.
-use Rattle.std.specs.Prelude.{◌≡◌, ℕ, suc, ◌^◌, ◌<◌, bit_or, refl}
+use Rattle.std.specs.Prelude.{◌≡◌, ◌^◌, ◌<◌, bit_or, refl}
 use Rattle.std.proofs.Common.{ap}
 use mathlib.Core.HLevel.{is_prop→PathP}
 use Rattle.std.proofs.Math.Bridge.{le_prop}
 use Rattle.std.proofs.lemmas.Nat.{or_comm}
 use Rattle.std.specs.Int.Bits.{or_self}
 use Rattle.std.proofs.lemmas.Bool.{eqb-true, eq-eqb}
-use Rattle.rules.specs.Order.{Order, Lawful}
+use Rattle.rules.specs.Order.{Lawful}
 use Rattle.levels.specs.Owners.{owners_order}
 use Rattle.levels.specs.declared.owners.Owners.{Owners}
 use Rattle.levels.specs.Union.{or_assoc}

@@ -1,4 +1,5 @@
 //! Levels of secrecy: the orders that they stand in, sets of start names, and tables of start levels.
+#![tactic(auto)]
 
 mod level;
 mod name_set;

@@ -13,9 +13,9 @@ pub struct Pair<A, B> {
 }
 
 impl<A: Level, B: Level> Level for Pair<A, B> {
-    ghost order = { pair_order A.Level.order B.Level.order };
+    ghost order = { pair_order A.order B.order };
 
-    ghost lawful = { pair_lawful A.Level.lawful B.Level.lawful };
+    ghost lawful = { pair_lawful A.lawful B.lawful };
 
     fn least() -> Pair<A, B> {
         Pair {

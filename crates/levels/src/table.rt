@@ -10,7 +10,7 @@ use crate::name_set::NameSet;
 
 /// The join of the start levels of the names in the set.
 pub fn join_of<L: Level>(levels: &[L], names: NameSet) -> L
-    ensures { result ≡ joined order (start_level order levels.now) (has names) (length levels.now) }
+    ensures { result ≡ joined L.order (start_level L.order levels.now) (has names) (length levels.now) }
 {
     let mut all = L::least();
     let mut name = 0;
@@ -25,7 +25,7 @@ pub fn join_of<L: Level>(levels: &[L], names: NameSet) -> L
 
 /// The names below 32 whose start levels flow to the bound.
 pub fn flowing<L: Level>(levels: &[L], bound: L) -> NameSet
-    ensures { FlowTo order levels.now bound result }
+    ensures { FlowTo L.order levels.now bound result }
 {
     let mut names = NameSet::empty();
     let mut place = 0;

@@ -1,6 +1,6 @@
 -- The fault of a line is that of its leftmost field that breaks its rule.
-use Rattle.std.proofs.Common.{◌≡◌, ℕ, zero, suc, ◌+◌, ◌*◌, ◌<◌, ◌≤◌, Bool, true, false, cond, eqb, ltb, ◌⊎◌, List, [], ◌∷◌, length, get_or, Some, None, Ok, Err, Option, Result, sym, refl, ap, ◌∙◌, subst, inl, inr, arith, below_none, below_more}
-use Rattle.std.proofs.lemmas.Bool.{cond-true, cond-false, eq-eqb, eqb-true, eqb-false, cases_Bool, ltb-true, ltb-false, lt-ltb, le-ltb}
+use Rattle.std.proofs.Common.{◌≡◌, ℕ, ◌+◌, ◌*◌, ◌<◌, ◌≤◌, true, false, eqb, ltb, List, [], ◌∷◌, length, get_or, Some, None, Ok, Err, Option, Result, sym, refl, ap, ◌∙◌, subst, inl, inr, arith, below_none, below_more}
+use Rattle.std.proofs.lemmas.Bool.{cond-true, cond-false, eqb-false, cases_Bool, ltb-true, ltb-false}
 use Rattle.columns.specs.Numbers.{column_value, Holds, NumberAnswer}
 use Rattle.columns.specs.Blanks.{all_blank, blanks}
 use Rattle.columns.proofs.Blanks.{blank_ok, blank_back}
@@ -10,7 +10,7 @@ use Rattle.lines.specs.declared.kind.Kind.{Kind}
 use Rattle.lines.specs.declared.line.Line.{Line}
 use Rattle.lines.specs.Kinds.{kind_of, operand_count, letter_of}
 use Rattle.lines.specs.Lines.{bind, or_fault, part, fault_at, column_read, letter_read, operand_read, line_read, from_letter, from_first, from_second, from_third, from_fourth, line_end}
-use Rattle.lines.specs.Laws.{Tells, OperandKeeps, Keeps, Leftmost, LineOf, LineAnswer}
+use Rattle.lines.specs.Laws.{Tells, OperandKeeps, Keeps, Leftmost, LineAnswer}
 use Rattle.lines.proofs.Lines.{err_is_err, column_ok, letter_ok, two_places, length_part, line_ok}
 use Rattle.lines.proofs.Back.{kind_back, line_back}
 

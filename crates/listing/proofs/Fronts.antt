@@ -1,7 +1,7 @@
 -- How many lines decide a fault, and no fewer; what the line is that it stands on.
-use Rattle.std.proofs.Common.{◌≡◌, ℕ, zero, suc, ◌+◌, ◌-◌, ◌*◌, ◌/◌, ◌%◌, ◌<◌, ◌≤◌, min, Bool, true, false, cond, ◌||◌, eqb, ltb, leb, ◌⊎◌, List, [], ◌∷◌, ◌++◌, length, take, drop, set, replicate, Ok, Err, Result, sym, refl, ap, ◌∙◌, subst, inl, inr, arith, length-drop}
+use Rattle.std.proofs.Common.{◌≡◌, ℕ, zero, suc, ◌+◌, ◌-◌, ◌*◌, ◌/◌, ◌%◌, ◌<◌, ◌≤◌, min, Bool, true, false, ◌||◌, eqb, ltb, leb, ◌⊎◌, List, [], ◌∷◌, ◌++◌, length, take, drop, set, replicate, Ok, Err, Result, sym, refl, ap, ◌∙◌, subst, inl, inr, arith, length-drop}
 use native.Mathlib.Nat.{min-eq_left, min-eq_right, min-le_left, min-le_right}
-use Rattle.std.proofs.lemmas.List.{append_assoc, length-append, length-take-le, take_at, drop_at, take-append-le, take-take, take_all}
+use Rattle.std.proofs.lemmas.List.{length-append, length-take-le, take_at, drop_at, take-append-le, take-take, take_all}
 use Rattle.std.proofs.lemmas.Bool.{cond-true, cond-false, eqb-true, eqb-false, ltb-false, cases_Bool, cases_eq, cases_lt, or_parts}
 use Rattle.lines.specs.declared.faults.ColumnFault.{ColumnFault}
 use Rattle.lines.specs.declared.faults.LineFault.{LineFault}
@@ -25,8 +25,8 @@ use Rattle.listing.specs.Answers.{deciding, Decide, SomeLine, OwnLine, Refused}
 use Rattle.listing.specs.Blocks.{Open, scan, placed}
 use Rattle.listing.specs.Forms.{no_region}
 use Rattle.listing.specs.Nodes.{in_column, node_line, node_from, node_at}
-use Rattle.listing.specs.Reading.{header_of, header_read, region_of, region_read, regions_scan, regions_read, nodes_read, in_line, parts_read, body_read, listing_read}
-use Rattle.listing.proofs.Decided.{line, fault_line, On, Inner, In, in_cond, in_placed, in_node, in_region, on_node, on_region, err_same, blank, nodes_on, parts_on, own_line}
+use Rattle.listing.specs.Reading.{header_of, header_read, region_of, region_read, regions_scan, regions_read, nodes_read, in_line, body_read, listing_read}
+use Rattle.listing.proofs.Decided.{line, On, Inner, In, in_cond, in_placed, in_node, in_region, on_node, on_region, err_same, blank, nodes_on, parts_on, own_line}
 use Rattle.listing.proofs.Laws.{none_has}
 use Rattle.listing.proofs.Nested.{on, with_node}
 use Rattle.listing.proofs.Readback.{length_part}

@@ -1,5 +1,6 @@
 //! The subject's data: operators, nodes and the regions of arrays. What they mean stands in specs/, and what holds of that meaning in
 //! `theorems`.
+#![tactic(auto)]
 
 pub mod operators;
 pub mod theorems;

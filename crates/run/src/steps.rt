@@ -3,7 +3,7 @@
 ghost use Rattle.std.specs.Prelude.{◌≡◌, ℕ, ◌<◌, ◌≤◌, cond, ◌==◌};
 ghost use Rattle.rules.specs.declared.Node.TheVariants.{Read, Write};
 ghost use Rattle.rules.specs.Routine.{Accepted, Next, OperandsExist, region};
-ghost use Rattle.rules.specs.Run.{result, counted, place, memory_after, point_after, mark};
+ghost use Rattle.rules.specs.Run.{result as given, counted, place, memory_after, point_after, mark};
 ghost use Rattle.listing.specs.Forms.{routine_of};
 ghost use Rattle.run.specs.Views.{of_memory};
 
@@ -15,7 +15,7 @@ use rules::{Node, Operator, Region};
 
 // What an operator gives on two values.
 pub(crate) fn result_of(operator: Operator, a: u32, b: u32) -> u32
-    ensures* { λ r. ⌜ r ≡ result operator a b ⌝ }
+    ensures { result ≡ given operator a b }
 {
     match operator {
         Operator::Sum => a.wrapping_add(b),
@@ -36,7 +36,8 @@ pub(crate) fn result_of(operator: Operator, a: u32, b: u32) -> u32
 // The index that counts: one not below the length counts as 0.
 pub(crate) fn counted_of(region: Region, index: u32) -> u32
     requires { Accepted region.start region.length }
-    ensures* { λ r. ⌜ r ≡ counted region index ⌝ ∗ ⌜ r < region.length ⌝ }
+    ensures is { result ≡ counted region index }
+    ensures within { result < region.length }
 {
     if index < region.length { index } else { 0 }
 }
@@ -44,7 +45,8 @@ pub(crate) fn counted_of(region: Region, index: u32) -> u32
 // The cell of an array's element, by the index that counts.
 fn cell_of(routine: &Routine, array: u32, index: u32) -> usize
     requires { array < routine.now.listing.counts.arrays }
-    ensures* { λ r. ⌜ r ≡ place (region (routine_of routine.now.listing) array) index ⌝ ∗ ⌜ r < 512 ⌝ }
+    ensures is { result ≡ place (region (routine_of routine.now.listing) array) index }
+    ensures within { result < 512 }
 {
     let region = region_at(routine, array as usize);
     (region.start + counted_of(region, index)) as usize
@@ -52,7 +54,7 @@ fn cell_of(routine: &Routine, array: u32, index: u32) -> usize
 
 // The one of two scalars that a condition picks.
 fn picked(condition: u32, then: u32, otherwise: u32) -> u32
-    ensures* { λ r. ⌜ r ≡ cond (condition == 0) otherwise then ⌝ }
+    ensures { result ≡ cond (condition == 0) otherwise then }
 {
     if condition == 0 { otherwise } else { then }
 }
@@ -60,7 +62,7 @@ fn picked(condition: u32, then: u32, otherwise: u32) -> u32
 // The memory after a read.
 fn read_into(routine: &Routine, target: u32, array: u32, index: u32, memory: &mut Memory)
     requires { OperandsExist 24 routine.now.listing.counts.arrays (Read target array index) }
-    ensures* { λ _. ⌜ of_memory memory.new ≡ memory_after (routine_of routine.now.listing) (Read target array index) (of_memory memory.old) ⌝ }
+    ensures { of_memory memory.new ≡ memory_after (routine_of routine.now.listing) (Read target array index) (of_memory memory.old) }
 {
     let cell = cell_of(routine, array, memory.scalars[index as usize]);
     memory.scalars[target as usize] = memory.cells[cell];
@@ -69,7 +71,7 @@ fn read_into(routine: &Routine, target: u32, array: u32, index: u32, memory: &mu
 // The memory after a write.
 fn write_from(routine: &Routine, array: u32, index: u32, value: u32, memory: &mut Memory)
     requires { OperandsExist 24 routine.now.listing.counts.arrays (Write array index value) }
-    ensures* { λ _. ⌜ of_memory memory.new ≡ memory_after (routine_of routine.now.listing) (Write array index value) (of_memory memory.old) ⌝ }
+    ensures { of_memory memory.new ≡ memory_after (routine_of routine.now.listing) (Write array index value) (of_memory memory.old) }
 {
     let cell = cell_of(routine, array, memory.scalars[index as usize]);
     memory.cells[cell] = memory.scalars[value as usize];
@@ -78,7 +80,7 @@ fn write_from(routine: &Routine, array: u32, index: u32, value: u32, memory: &mu
 // The memory after a node.
 pub(crate) fn step_memory(routine: &Routine, node: Node, memory: &mut Memory)
     requires { OperandsExist 24 routine.now.listing.counts.arrays node }
-    ensures* { λ _. ⌜ of_memory memory.new ≡ memory_after (routine_of routine.now.listing) node (of_memory memory.old) ⌝ }
+    ensures { of_memory memory.new ≡ memory_after (routine_of routine.now.listing) node (of_memory memory.old) }
 {
     let scalars = &mut memory.scalars;
     match node {
@@ -121,7 +123,7 @@ pub(crate) fn step_memory(routine: &Routine, node: Node, memory: &mut Memory)
 // The point after a node.
 pub(crate) fn step_point(node: Node, point: u32, memory: &Memory) -> u32
     requires { (point < 128) × ((OperandsExist 24 8 node) × (((q : ℕ) → Next node point q → q ≤ 128))) }
-    ensures* { λ r. ⌜ r ≡ point_after node point (of_memory memory.now) ⌝ }
+    ensures { result ≡ point_after node point (of_memory memory.now) }
 {
     match node {
         Node::If {
@@ -151,7 +153,7 @@ pub(crate) fn access_mark_of<M: LeakageModel>(
     index: u32,
 ) -> u32
     requires { array < routine.now.listing.counts.arrays }
-    ensures* { λ r. ⌜ r ≡ (M.LeakageModel.leakage model).access_mark (region (routine_of routine.now.listing) array).start (region (routine_of routine.now.listing) array).length (counted (region (routine_of routine.now.listing) array) index) ⌝ }
+    ensures { result ≡ (M.leakage model).access_mark (region (routine_of routine.now.listing) array).start (region (routine_of routine.now.listing) array).length (counted (region (routine_of routine.now.listing) array) index) }
 {
     let region = region_at(routine, array as usize);
     model.access_mark(region, counted_of(region, index))
@@ -165,7 +167,7 @@ pub(crate) fn mark_of<M: LeakageModel>(
     memory: &Memory,
 ) -> u32
     requires { OperandsExist 24 routine.now.listing.counts.arrays node }
-    ensures* { λ r. ⌜ r ≡ mark (M.LeakageModel.leakage model) (routine_of routine.now.listing) node (of_memory memory.now) ⌝ }
+    ensures { result ≡ mark (M.leakage model) (routine_of routine.now.listing) node (of_memory memory.now) }
 {
     let scalars = &memory.scalars;
     match node {

@@ -71,7 +71,7 @@ fn run_list<'a, M: LeakageModel>(
     lines: &mut [LeakLine],
 ) -> Open<'a, M>
     requires { has_room calls.now answers.old lines.old ≡ true }
-    ensures logged { Logged (terms_of leakage clearance.entry.exam.now) (started (of_memory memory)) (journal memory calls.now answers.old answers.new lines.old lines.new) }
+    ensures logged { Logged (terms_of M.leakage clearance.entry.exam.now) (started (of_memory memory)) (journal memory calls.now answers.old answers.new lines.old lines.new) }
     ensures state { state_of result.run ≡ stop_of clearance.entry.exam.now.routine.listing (journal memory calls.now answers.old answers.new lines.old lines.new) }
     ensures exam { result.run.exam.now ≡ clearance.entry.exam.now }
 {
@@ -106,8 +106,8 @@ fn run_both<'a, M: LeakageModel>(
     traces: &mut [LeakLine],
 ) -> Pair<'a, M>
     requires { has_room calls.now answers.old lines.old && has_room others.now replies.old traces.old ≡ true }
-    ensures first { Logged (terms_of leakage cleared.entry.first.exam.now) (started (of_memory memories.first)) (journal memories.first calls.now answers.old answers.new lines.old lines.new) }
-    ensures second { Logged (terms_of leakage cleared.entry.second.exam.now) (started (of_memory memories.second)) (journal memories.second others.now replies.old replies.new traces.old traces.new) }
+    ensures first { Logged (terms_of M.leakage cleared.entry.first.exam.now) (started (of_memory memories.first)) (journal memories.first calls.now answers.old answers.new lines.old lines.new) }
+    ensures second { Logged (terms_of M.leakage cleared.entry.second.exam.now) (started (of_memory memories.second)) (journal memories.second others.now replies.old replies.new traces.old traces.new) }
     ensures state { state_of result.first.run ≡ stop_of cleared.entry.first.exam.now.routine.listing (journal memories.first calls.now answers.old answers.new lines.old lines.new) }
     ensures other { state_of result.second.run ≡ stop_of cleared.entry.second.exam.now.routine.listing (journal memories.second others.now replies.old replies.new traces.old traces.new) }
     ensures exams { (result.first.run.exam.now ≡ cleared.entry.first.exam.now) × (result.second.run.exam.now ≡ cleared.entry.second.exam.now) }
@@ -134,7 +134,7 @@ pub fn both<'a, L: Level, M: LeakageModel>(
     log: Log<'_>,
     copy: Log<'_>,
 ) -> Result<Pair<'a, M>, Declined>
-    ensures { Paired L.Level.order M.LeakageModel.leakage levels.now listener exam.now (journal memories.first calls.now log.entry.answers.now log.exit.0.now log.entry.lines.now log.exit.1.0.now) (journal memories.second others.now copy.entry.answers.now copy.exit.0.now copy.entry.lines.now copy.exit.1.0.now) result }
+    ensures { Paired L.order M.leakage levels.now listener exam.now (journal memories.first calls.now log.entry.answers.now log.exit.0.now log.entry.lines.now log.exit.1.0.now) (journal memories.second others.now copy.entry.answers.now copy.exit.0.now copy.entry.lines.now copy.exit.1.0.now) result }
 {
     let _ = levels;
     let _ = listener;

@@ -22,8 +22,8 @@ fn places(call: Call) -> usize
 // One call, with the places that are its own.
 fn make<M: LeakageModel>(run: &mut Run<'_, M>, call: Call, lines: &mut [LeakLine]) -> Answer
     requires { length lines.old ≡ places_of call }
-    ensures answer { told result lines.new ≡ answer_to leakage run.old (of_call call) }
-    ensures lines { lines.new ≡ overwritten (lines_in (answer_to leakage run.old (of_call call))) lines.old }
+    ensures answer { told result lines.new ≡ answer_to M.leakage run.old (of_call call) }
+    ensures lines { lines.new ≡ overwritten (lines_in (answer_to M.leakage run.old (of_call call))) lines.old }
     ensures state { state_of run.new ≡ state_past run.old (of_call call) }
     ensures exam { run.new.exam.now ≡ run.old.exam.now }
 {
@@ -48,8 +48,8 @@ pub(crate) fn perform<M: LeakageModel>(
     lines: &mut [LeakLine],
 )
     requires { has_room calls.now answers.old lines.old ≡ true }
-    ensures logged { Logged (terms_in leakage run.old) (state_of run.old) (journal run.old.memory calls.now answers.old answers.new lines.old lines.new) }
-    ensures state { state_of run.new ≡ last_state (terms_in leakage run.old).routine calls.now (state_of run.old) }
+    ensures logged { Logged (terms_in M.leakage run.old) (state_of run.old) (journal run.old.memory calls.now answers.old answers.new lines.old lines.new) }
+    ensures state { state_of run.new ≡ last_state (terms_in M.leakage run.old).routine calls.now (state_of run.old) }
     ensures exam { run.new.exam.now ≡ run.old.exam.now }
 {
     let mut used = 0;

@@ -44,7 +44,7 @@ pub fn trial<L: Level, M: LeakageModel>(
     log: Log<'_>,
     copy: Log<'_>,
 ) -> Result<Memories, Declined>
-    ensures { Tried (scene L.Level.order (M.LeakageModel.leakage model) routine.listing levels.now listener) (journal memories.first calls.now log.entry.answers.now log.exit.0.now log.entry.lines.now log.exit.1.0.now) (journal memories.second others.now copy.entry.answers.now copy.exit.0.now copy.entry.lines.now copy.exit.1.0.now) result }
+    ensures { Tried (scene L.order (M.leakage model) routine.listing levels.now listener) (journal memories.first calls.now log.entry.answers.now log.exit.0.now log.entry.lines.now log.exit.1.0.now) (journal memories.second others.now copy.entry.answers.now copy.exit.0.now copy.entry.lines.now copy.exit.1.0.now) result }
 {
     // A log that was passed in cannot be handed on: its rooms are, in a log made anew.
     let Log { answers, lines } = log;

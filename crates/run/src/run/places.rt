@@ -15,7 +15,7 @@ use leakage::LeakageModel;
 impl<M: LeakageModel> Run<'_, M> {
     // Whether what a place names is open at the present point.
     fn tells(&self, place: Place) -> bool
-        ensures { result ≡ is_open (terms_in leakage self.now) self.now.point (of_place place) }
+        ensures { result ≡ is_open (terms_in M.leakage self.now) self.now.point (of_place place) }
     {
         match place {
             Place::Scalar(k) => self.exam.is_open(self.point as usize, k as usize),
@@ -28,7 +28,7 @@ impl<M: LeakageModel> Run<'_, M> {
 
     /// The value of a place that is open at the present point. No run is changed by it.
     pub fn ask(&self, place: Place) -> Result<u32, RunFault>
-        ensures { asked result ≡ answer_to leakage self.now (Ask (of_place place)) }
+        ensures { asked result ≡ answer_to M.leakage self.now (Ask (of_place place)) }
     {
         let slot = locate(self.exam.routine(), place)?;
         if self.tells(place) {
@@ -40,7 +40,7 @@ impl<M: LeakageModel> Run<'_, M> {
 
     /// Writes a value into a place, open or shut. Where it is refused, the run is left as it was.
     pub fn feed(&mut self, place: Place, value: u32) -> Result<(), RunFault>
-        ensures answer { granted result ≡ answer_to leakage self.old (Feed (of_place place) value) }
+        ensures answer { granted result ≡ answer_to M.leakage self.old (Feed (of_place place) value) }
         ensures state { state_of self.new ≡ state_past self.old (Feed (of_place place) value) }
         ensures exam { self.new.exam.now ≡ self.old.exam.now }
     {

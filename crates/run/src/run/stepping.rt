@@ -26,8 +26,8 @@ impl<M: LeakageModel> Run<'_, M> {
     // One step, whose leak line is written into the place.
     fn step(&mut self, lines: &mut [LeakLine], place: usize)
         requires { (self.old.point < end (routine_of self.old.exam.now.routine.listing)) × (place < length lines.old) }
-        ensures line { lines.new ≡ slice_set lines.old place (leak_line (line (terms_in leakage self.old).model (terms_in leakage self.old).routine (state_of self.old))) }
-        ensures state { state_of self.new ≡ step (terms_in leakage self.old).routine (state_of self.old) }
+        ensures line { lines.new ≡ slice_set lines.old place (leak_line (line (terms_in M.leakage self.old).model (terms_in M.leakage self.old).routine (state_of self.old))) }
+        ensures state { state_of self.new ≡ step (terms_in M.leakage self.old).routine (state_of self.old) }
         ensures exam { self.new.exam.now ≡ self.old.exam.now }
     {
         let routine = self.exam.routine();
@@ -52,7 +52,7 @@ impl<M: LeakageModel> Run<'_, M> {
 
     /// One step for each place of `lines`, until the places or the routine end. Places past the count are left as they were.
     pub fn advance(&mut self, lines: &mut [LeakLine]) -> Advanced
-        ensures answer { advanced result lines.new ≡ answer_to leakage self.old (Advance (length lines.old)) }
+        ensures answer { advanced result lines.new ≡ answer_to M.leakage self.old (Advance (length lines.old)) }
         ensures rest { drop result.count lines.new ≡ drop result.count lines.old }
         ensures state { state_of self.new ≡ state_past self.old (Advance (length lines.old)) }
         ensures exam { self.new.exam.now ≡ self.old.exam.now }

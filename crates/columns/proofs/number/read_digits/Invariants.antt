@@ -1,4 +1,4 @@
-use Rattle.std.proofs.Common.{◌≡◌, ◌-◌, ◌≤◌, length, drop}
+use Rattle.std.proofs.Common.{◌≡◌, ◌≤◌, drop}
 use Rattle.columns.specs.Numbers.{digits_value}
 use Rattle.columns.proofs.number.read_digits.Given as goal
 

@@ -1,4 +1,4 @@
-use Rattle.std.proofs.Common.{◌≡◌, ◌-◌, ◌<◌, ◌≤◌, ◌++◌, length, drop}
+use Rattle.std.proofs.Common.{◌≡◌, ◌<◌, ◌++◌, length, drop}
 use Rattle.columns.specs.Numbers.{number_column}
 use Rattle.columns.proofs.Steps.{leading}
 use Rattle.columns.proofs.number.write_number.Given as goal

@@ -27,7 +27,7 @@ step v ws p d w s r h is text taken =
 
 pub returns-in_err-draft : goal.returns-in_err-draft
 returns-in_err-draft c =
-    let p = err_from_is_err_and c.from-residual.result c.from-residual.ensures.1 in
+    let p = err_from_is_err_and c.from_residual.result c.from_residual.ensures.1 in
     let s = step c.args.verb c.args.words.now c.loop-place.place c.loop-place.draft c.index-words-place.result c.as_str.result.now c.take.result
     c.loop-place-test.true c.index-words-place.is c.as_str.ensures.value c.take.ensures in
     let was = c.in_err-draft.was in

@@ -1,4 +1,4 @@
-use Rattle.std.proofs.Common.{◌≡◌, ◌+◌, ◌<◌, ◌≤◌, set, Ok, Err, sym, ap, ◌∙◌, arith}
+use Rattle.std.proofs.Common.{◌+◌, set, Ok, sym, ap, ◌∙◌, arith}
 use Rattle.std.proofs.lemmas.Result.{err_from_is_err_and}
 use Rattle.lines.specs.Lines.{bind}
 use Rattle.listing.specs.Nodes.{node_line}
@@ -8,7 +8,7 @@ use Rattle.listing.proofs.blocks.+read_block_read_if_read_while.Goals as goal
 
 pub read_block-returns-in_err-node : goal.read_block-returns-in_err-node
 read_block-returns-in_err-node t c =
-    let p = err_from_is_err_and c.from-residual.result c.from-residual.ensures.1 in
+    let p = err_from_is_err_and c.from_residual.result c.from_residual.ensures.1 in
     rw (p.1, p.2)
     (record {
       within = tt;
@@ -40,46 +40,46 @@ read_block-returns-in-EndWhile t c =
           ∙ scan_ok c.args.bytes.now c.args.counts c.loop-at.at st c.loop-at.nodes (omega arith) _ (ap Ok (sym c.in-EndWhile.is) ∙ c.in_ok-node.ensures);
     }
 
-pub read_block-returns-in_err-at : goal.read_block-returns-in_err-at
-read_block-returns-in_err-at t c =
-    let p = err_from_is_err_and c.from-residual-in_err-at.result c.from-residual-in_err-at.ensures.1 in
+pub read_block-returns-in_err-at-in-If : goal.read_block-returns-in_err-at-in-If
+read_block-returns-in_err-at-in-If t c =
+    let p = err_from_is_err_and c.from_residual-in_err-at-in-If.result c.from_residual-in_err-at-in-If.ensures.1 in
     rw (p.1, p.2)
     (record {
       within = tt;
       reads = λ st h. c.loop-at.invariant.2 st h
           ∙ scan_ok c.args.bytes.now c.args.counts c.loop-at.at st c.loop-at.nodes (omega arith) _ (ap Ok (sym c.in-If.is) ∙ c.in_ok-node.ensures)
-          ∙ c.in_err-at.ensures.reads st h;
+          ∙ c.in_err-at-in-If.ensures.reads st h;
     })
 
 pub read_block-loop-at-preserved-in-If : goal.read_block-loop-at-preserved-in-If
 read_block-loop-at-preserved-in-If t c =
-    let w = c.in_ok-at.ensures.within in (
+    let w = c.in_ok-at-in-If.ensures.within in (
       omega arith,
       omega arith,
       λ st h. c.loop-at.invariant.2 st h
           ∙ scan_ok c.args.bytes.now c.args.counts c.loop-at.at st c.loop-at.nodes (omega arith) _ (ap Ok (sym c.in-If.is) ∙ c.in_ok-node.ensures)
-          ∙ c.in_ok-at.ensures.reads st h,
+          ∙ c.in_ok-at-in-If.ensures.reads st h,
     )
 
-pub read_block-returns-in_err-at-2 : goal.read_block-returns-in_err-at-2
-read_block-returns-in_err-at-2 t c =
-    let p = err_from_is_err_and c.from-residual-in_err-at-2.result c.from-residual-in_err-at-2.ensures.1 in
+pub read_block-returns-in_err-at-in-While : goal.read_block-returns-in_err-at-in-While
+read_block-returns-in_err-at-in-While t c =
+    let p = err_from_is_err_and c.from_residual-in_err-at-in-While.result c.from_residual-in_err-at-in-While.ensures.1 in
     rw (p.1, p.2)
     (record {
       within = tt;
       reads = λ st h. c.loop-at.invariant.2 st h
           ∙ scan_ok c.args.bytes.now c.args.counts c.loop-at.at st c.loop-at.nodes (omega arith) _ (ap Ok (sym c.in-While.is) ∙ c.in_ok-node.ensures)
-          ∙ c.in_err-at-2.ensures.reads st h;
+          ∙ c.in_err-at-in-While.ensures.reads st h;
     })
 
 pub read_block-loop-at-preserved-in-While : goal.read_block-loop-at-preserved-in-While
 read_block-loop-at-preserved-in-While t c =
-    let w = c.in_ok-at-2.ensures.within in (
+    let w = c.in_ok-at-in-While.ensures.within in (
       omega arith,
       omega arith,
       λ st h. c.loop-at.invariant.2 st h
           ∙ scan_ok c.args.bytes.now c.args.counts c.loop-at.at st c.loop-at.nodes (omega arith) _ (ap Ok (sym c.in-While.is) ∙ c.in_ok-node.ensures)
-          ∙ c.in_ok-at-2.ensures.reads st h,
+          ∙ c.in_ok-at-in-While.ensures.reads st h,
     )
 
 pub read_block-loop-at-preserved : goal.read_block-loop-at-preserved

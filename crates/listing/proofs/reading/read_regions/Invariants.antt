@@ -1,4 +1,4 @@
-use Rattle.std.proofs.Common.{◌≡◌, ◌-◌, ◌≤◌, length, replicate}
+use Rattle.std.proofs.Common.{◌≡◌, ◌-◌, ◌≤◌, replicate}
 use Rattle.listing.specs.Reading.{regions_scan}
 use Rattle.listing.specs.Forms.{no_region}
 use Rattle.listing.proofs.reading.read_regions.Given as goal

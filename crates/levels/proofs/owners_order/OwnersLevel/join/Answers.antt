@@ -4,7 +4,7 @@ use Rattle.levels.specs.OwnersLaws.{same_owners}
 use Rattle.levels.proofs.owners_order.OwnersLevel.join.Goals as goal
 
 pub invariant_of-result : goal.invariant_of-result
-invariant_of-result c = (or_lt 16 c.args.self.set c.args.other.set c.args.self.within c.args.other.within, tt)
+invariant_of-result c = record { within = or_lt 16 c.args.self.set c.args.other.set c.args.self.within c.args.other.within }
 
 pub returns : goal.returns
 returns c = same_owners _ _ refl
