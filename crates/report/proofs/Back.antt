@@ -10,9 +10,8 @@ use Rattle.listing.proofs.Readback.{text_ok}
 use Rattle.report.specs.Sheets.{back_text}
 
 -- a test of xs is a test of zs, if they are the same
-pub tested : (r : Bool) (xs ys zs : List ℕ) → xs ≡ zs → Decides r (xs ≡ ys) → r ≡ bytes_eq zs ys
-tested r xs ys zs e d =
-    let moved : Decides r (zs ≡ ys) = subst (λ (l : List ℕ). Decides r (l ≡ ys)) e d in search (rules, bytes_eq-Decides)
+pub tested : (r : Bool) (xs ys zs : List ℕ) → xs ≡ zs → r ≡ bytes_eq xs ys → r ≡ bytes_eq zs ys
+tested r xs ys zs e d = d ∙ ap (λ (l : List ℕ). bytes_eq l ys) e
 
 -- the front that was written is the text of the listing
 pub front_text : (n : ℕ) (left : List ℕ) (t : Listing) → listing_read (take n left) ≡ Ok t → take (n - 0) left ≡ listing_text t

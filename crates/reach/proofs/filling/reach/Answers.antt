@@ -11,8 +11,8 @@ pub loop-init : goal.loop-init
 loop-init c =
     let x = c.args.routine.now in
     let few : end (routine_of x.listing) ≤ 128 = rw (end_of x) (limits_of x).nodes in
-    going_first (routine_of x.listing) c.started_work.result few
-    (subst (λ (k : Counts). Started k.scalars c.started_work.result) c.counts_of-counts.ensures.is c.started_work.ensures)
+    going_first (routine_of x.listing) c.started-work.result few
+    (subst (λ (k : Counts). Started k.scalars c.started-work.result) c.counts_of-counts.ensures.is c.started-work.ensures)
 
 pub returns : goal.returns
 returns c =

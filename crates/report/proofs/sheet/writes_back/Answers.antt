@@ -10,7 +10,7 @@ pub returns-in-Ok : goal.returns-in-Ok
 returns-in-Ok c =
     let t = c.args.routine.now.listing in
     tested c.eq.result _ c.args.bytes.now (listing_text t) (front_text c.in-Ok.length _ t c.in-Ok.ensures.keeps.0)
-    (slice_eq-Decides Decides-eqb _ _ _ c.eq.ensures)
+    c.eq.ensures
 
 pub returns-in-Err : goal.returns-in-Err
 returns-in-Err c =

@@ -12,7 +12,7 @@ loop-byte-init c =
 pub loop-byte-preserved : goal.loop-byte-preserved
 loop-byte-preserved c =
     two_turn c.args.text.now c.loop-byte.byte-index (vec_items c.loop-byte.levels) c.in-Some.level (vec_items c.push.new.self)
-    c.loop-byte-test.true c.in-Some.ensures c.in_ok-push.ensures.items c.loop-byte.invariant
+    c.loop-byte-test.true c.in-Some.ensures c.in_ok-push-in-Some.ensures.items c.loop-byte.invariant
 
 pub returns : goal.returns
 returns c = two_end c.args.text.now c.loop-byte.byte-index (vec_items c.loop-byte.levels) c.loop-byte-test.false c.loop-byte.invariant
