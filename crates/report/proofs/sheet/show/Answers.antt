@@ -5,11 +5,11 @@ use Rattle.texts.specs.Refusals.{refusal_text}
 use Rattle.report.proofs.Back.{identical}
 use Rattle.report.proofs.sheet.show.Goals as goal
 
-pub returns-in_ok-text : goal.returns-in_ok-text
-returns-in_ok-text c =
+pub returns-in_ok-text-in-Ok : goal.returns-in_ok-text-in-Ok
+returns-in_ok-text-in-Ok c =
     let t = c.in-Ok.routine.listing in
-    (t, c.in-Ok.ensures.is, identical _ (record_text t) c.args.bytes.now (listing_text t) c.in-Ok.ensures.means.0 c.in_ok-text.ensures)
+    (t, c.in-Ok.ensures.is, identical _ (record_text t) c.args.bytes.now (listing_text t) c.in-Ok.ensures.means.0 c.in_ok-text-in-Ok.ensures)
 
-pub returns-in_ok-text-2 : goal.returns-in_ok-text-2
-returns-in_ok-text-2 c =
-    (c.in-Err.fault, c.in-Err.ensures.is, c.in_ok-text-2.ensures ∙ ap (refusal_text c.args.bytes.now) c.refusal.ensures)
+pub returns-in_ok-text-in-Err : goal.returns-in_ok-text-in-Err
+returns-in_ok-text-in-Err c =
+    (c.in-Err.fault, c.in-Err.ensures.is, c.in_ok-text-in-Err.ensures ∙ ap (refusal_text c.args.bytes.now) c.refusal.ensures)
