@@ -3,6 +3,7 @@ use Rattle.std.specs.Prelude.{ℕ, ◌+◌, List, map, take, Ok, Err, Result}
 use Rattle.rules.specs.Leakage.{Leakage}
 use Rattle.rules.specs.Run.{Terms, Call, Answer, Run as RulesRun, reply, after}
 use Rattle.rules.specs.Run.Answer.{Advanced, Granted, Told, Refused}
+use Rattle.leakage.specs.declared.model.LeakageModel.{Ghosts}
 use Rattle.listing.specs.Forms.{routine_of}
 use Rattle.clearance.specs.declared.record.Examination.{Examination}
 use Rattle.clearance.specs.Opens.{opens_of}
@@ -22,19 +23,19 @@ terms_of w e =
       shown = λ t. opens_of e.opens 0 (e.routine.listing.counts.scalars + t);
     }
 
-abbrev pub terms_in : {M : Type 0} → (M → Leakage) → Run M → Terms
+abbrev pub terms_in : {M : Type 0} {g : Ghosts M} → (M → Leakage) → Run M g → Terms
 terms_in w r = terms_of w r.exam.now
 
 -- Where a run stands.
-abbrev pub state_of : {M : Type 0} → Run M → RulesRun
+abbrev pub state_of : {M : Type 0} {g : Ghosts M} → Run M g → RulesRun
 state_of r = record { point = r.point; memory = of_memory r.memory }
 
 -- The rules' answer to a call.
-abbrev pub answer_to : {M : Type 0} → (M → Leakage) → Run M → Call → Answer
+abbrev pub answer_to : {M : Type 0} {g : Ghosts M} → (M → Leakage) → Run M g → Call → Answer
 answer_to w r y = reply (terms_in w r) y (state_of r)
 
 -- Where the rules say that a run stands after a call.
-abbrev pub state_past : {M : Type 0} → Run M → Call → RulesRun
+abbrev pub state_past : {M : Type 0} {g : Ghosts M} → Run M g → Call → RulesRun
 state_past r y = after (routine_of r.exam.now.routine.listing) y (state_of r)
 
 -- What advance answers, with its lines below the count.

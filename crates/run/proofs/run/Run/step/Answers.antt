@@ -17,7 +17,5 @@ pub step_memory-requires : goal.step_memory-requires
 step_memory-requires g c = among _ _ _ c.routine-routine.ensures c.requires.0 _ c.node_at-node.ensures.operands
 
 pub invariant_of-self : goal.invariant_of-self
-invariant_of-self g c = (
-  stays _ _ _ c.routine-routine.ensures c.requires.0 _ c.node_at-node.ensures.next _ _ c.step_point-self.ensures,
-  tt,
-)
+invariant_of-self g c =
+    record { within = stays _ _ _ c.routine-routine.ensures c.requires.0 _ c.node_at-node.ensures.next _ _ c.step_point-self.ensures }
