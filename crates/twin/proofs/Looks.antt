@@ -16,6 +16,7 @@ use Rattle.clearance.specs.Examinations.{Examined, RightOpens}
 use Rattle.clearance.proofs.Tellings.{earned}
 use Rattle.run.specs.Views.{of_memory, zeroed}
 use Rattle.run.specs.Runs.{terms_of}
+use Rattle.leakage.specs.declared.model.LeakageModel.{Ghosts}
 use Rattle.twin.specs.declared.pair.Pair.{Pair}
 use Rattle.twin.specs.declared.pair.Memories.{Memories}
 use Rattle.twin.specs.Logs.{Journal, of_call, start_of, stop_of, Logged}
@@ -74,7 +75,7 @@ module _ {L M : Type 0} (o : Order L) (w : M → Leakage) (levels : List L) (lis
     (E : Examined (scene o (w model) routine.listing levels listener) e) where
   -- Where both lists were made, and both runs are closed.
   pub tried :
-      (p : Pair M) (wiped : Memories)
+      {g : Ghosts M} (p : Pair M g) (wiped : Memories)
       → BothOpen o w levels listener e j k p
       → wiped.first ≡ zeroed
       → wiped.second ≡ zeroed

@@ -9,6 +9,7 @@ use Rattle.clearance.specs.declared.outcome.ClearFault.TheVariants as fault
 use Rattle.clearance.specs.Outcomes.{is_granted, fault_of}
 use Rattle.clearance.specs.Scenes.{Scene, scene, setting, Fitting}
 use Rattle.clearance.specs.Examinations.{Examined}
+use Rattle.leakage.specs.declared.model.LeakageModel.{Ghosts}
 use Rattle.run.specs.Views.{of_memory, zeroed}
 use Rattle.run.specs.Runs.{terms_of, state_of}
 use Rattle.twin.specs.declared.pair.Pair.{Pair}
@@ -83,10 +84,10 @@ abbrev pub DeclinedBy : {M : Type 0} → Examination M → Journal → Journal �
 DeclinedBy e j k Room = both_room j k ≡ false
 DeclinedBy e j k (Clear f) = (both_room j k ≡ true) × (fault_of e.outcome ≡ Some f)
 
-module _ {L M : Type 0} (o : Order L) (w : M → Leakage) (levels : List L) (listener : L) (e : Examination M) (j k : Journal) where
+module _ {L M : Type 0} {g : Ghosts M} (o : Order L) (w : M → Leakage) (levels : List L) (listener : L) (e : Examination M) (j k : Journal) where
   -- Both lists were made, and both runs of the record are still open, where the rules say that they stand. The guarantee holds of these levels
   -- and this listener if the record was made for them.
-  pub record BothOpen (p : Pair M) : Type 0 where
+  pub record BothOpen (p : Pair M g) : Type 0 where
     pub room : both_room j k ≡ true
     pub granted : is_granted e.outcome ≡ true
     pub first_exam : p.first.run.exam.now ≡ e
@@ -100,6 +101,6 @@ module _ {L M : Type 0} (o : Order L) (w : M → Leakage) (levels : List L) (lis
         → LookAlike (scene_in o w levels listener e) j k (state_of p.first.run) (state_of p.second.run)
 
   -- What a pair of runs promises.
-  abbrev pub Paired : Result (Pair M) Declined → Type 0
+  abbrev pub Paired : Result (Pair M g) Declined → Type 0
   Paired (Ok p) = BothOpen p
   Paired (Err d) = DeclinedBy e j k d.reason × Kept j k d

@@ -29,10 +29,10 @@ returns-in-Ok g c =
     ))
     c.finding_of.ensures
 
-pub returns-in_ok-text : goal.returns-in_ok-text
-returns-in_ok-text g c =
+pub returns-in_ok-text-in-Err : goal.returns-in_ok-text-in-Err
+returns-in_ok-text-in-Err g c =
     inr (
       c.in-Err.fault,
       c.in-Err.ensures.is,
-      c.in_ok-text.ensures ∙ ap (refusal_text c.args.bytes.now) c.refusal.ensures,
+      c.in_ok-text-in-Err.ensures ∙ ap (refusal_text c.args.bytes.now) c.refusal.ensures,
     )

@@ -8,40 +8,40 @@ use Rattle.findings.specs.Who.{who_text}
 use Rattle.findings.specs.Findings.{table_text, cleared_text, Told}
 use Rattle.findings.proofs.finding.finding_of.Goals as goal
 
-pub returns-in_ok-text : goal.returns-in_ok-text
-returns-in_ok-text g c =
+pub returns-in_ok-text-in-TableLength : goal.returns-in_ok-text-in-TableLength
+returns-in_ok-text-in-TableLength g c =
     let x = c.args.exam.now in
     let levels = c.args.levels.now in
-    subst (λ (o : Outcome). Told g.L.NamedLevel.named g.L.NamedLevel.told g.L.Level.order c.args.bytes.now x.model levels c.args.listener x.routine.listing o (Refused c.in_ok-text.text))
+    subst (λ (o : Outcome). Told g.L.NamedLevel.named g.L.NamedLevel.told g.L.Level.order c.args.bytes.now x.model levels c.args.listener x.routine.listing o (Refused c.in_ok-text-in-TableLength.text))
     c.in-TableLength.ensures
-    (c.in_ok-text.ensures
+    (c.in_ok-text-in-TableLength.ensures
     ∙ ap (λ (k : Counts). table_text k (length levels)) (c.counts_of-counts.ensures.is ∙ ap (λ (r : Routine). r.listing.counts) c.routine.ensures))
 
-pub returns-in_ok-text-2 : goal.returns-in_ok-text-2
-returns-in_ok-text-2 g c =
+pub returns-in_ok-text-in-Granted : goal.returns-in_ok-text-in-Granted
+returns-in_ok-text-in-Granted g c =
     let x = c.args.exam.now in
     let levels = c.args.levels.now in
     let who = who_text g.L.NamedLevel.named g.L.NamedLevel.told in
-    subst (λ (o : Outcome). Told g.L.NamedLevel.named g.L.NamedLevel.told g.L.Level.order c.args.bytes.now x.model levels c.args.listener x.routine.listing o (Cleared c.in_ok-text-2.text))
+    subst (λ (o : Outcome). Told g.L.NamedLevel.named g.L.NamedLevel.told g.L.Level.order c.args.bytes.now x.model levels c.args.listener x.routine.listing o (Cleared c.in_ok-text-in-Granted.text))
     c.in-Granted.ensures
-    (c.in_ok-text-2.ensures.made
+    (c.in_ok-text-in-Granted.ensures.ok
     ∙ ap (λ (l : List ℕ). l ++ cleared_text)
-    (c.in_ok-who.ensures ∙ ap (λ (m : Layered). who m c.counts_of-counts.result.scalars levels c.args.listener) c.model.ensures
+    (c.in_ok-who-in-Granted.ensures ∙ ap (λ (m : Layered). who m c.counts_of-counts.result.scalars levels c.args.listener) c.model.ensures
     ∙ ap (λ (k : Counts). who x.model k.scalars levels c.args.listener)
     (c.counts_of-counts.ensures.is ∙ ap (λ (r : Routine). r.listing.counts) c.routine.ensures)))
 
-pub returns-in_ok-text-3 : goal.returns-in_ok-text-3
-returns-in_ok-text-3 g c =
+pub returns-in_ok-text-in-Leak : goal.returns-in_ok-text-in-Leak
+returns-in_ok-text-in-Leak g c =
     let x = c.args.exam.now in
     let levels = c.args.levels.now in
     let who = who_text g.L.NamedLevel.named g.L.NamedLevel.told in
-    subst (λ (o : Outcome). Told g.L.NamedLevel.named g.L.NamedLevel.told g.L.Level.order c.args.bytes.now x.model levels c.args.listener x.routine.listing o (Leaking c.in_ok-text-3.text))
+    subst (λ (o : Outcome). Told g.L.NamedLevel.named g.L.NamedLevel.told g.L.Level.order c.args.bytes.now x.model levels c.args.listener x.routine.listing o (Leaking c.in_ok-text-in-Leak.text))
     c.in-Leak.ensures (
-      string_bytes c.in_ok-leak.leak,
-      c.in_ok-leak.ensures,
-      c.in_ok-text-3.ensures.made
-          ∙ ap (λ (l : List ℕ). l ++ string_bytes c.in_ok-leak.leak)
-          (c.in_ok-who-2.ensures ∙ ap (λ (m : Layered). who m c.counts_of-counts.result.scalars levels c.args.listener) c.model-in-Leak.ensures
+      string_bytes c.in_ok-leak-in-Leak.leak,
+      c.in_ok-leak-in-Leak.ensures,
+      c.in_ok-text-in-Leak.ensures.ok
+          ∙ ap (λ (l : List ℕ). l ++ string_bytes c.in_ok-leak-in-Leak.leak)
+          (c.in_ok-who-in-Leak.ensures ∙ ap (λ (m : Layered). who m c.counts_of-counts.result.scalars levels c.args.listener) c.model-in-Leak.ensures
           ∙ ap (λ (k : Counts). who x.model k.scalars levels c.args.listener)
           (c.counts_of-counts.ensures.is ∙ ap (λ (r : Routine). r.listing.counts) c.routine.ensures)),
     )
