@@ -9,6 +9,7 @@ mod show;
 use arguments::{USAGE, Verb, call_of, misuse_text, verb_of, word_at};
 use failure::{Failure, tell};
 use std::env;
+use std::process::ExitCode;
 
 /// The words after the program's name.
 fn words_of(rt: &HostRuntime) -> Result<Vec<String>, Failure> {
@@ -39,12 +40,12 @@ fn run(rt: &HostRuntime) -> Result<(), Failure> {
     }
 }
 
-fn main(rt: HostRuntime) -> Result<(), Failure> {
+fn main(rt: HostRuntime) -> ExitCode {
     match run(&rt) {
-        Ok(()) => Ok(()),
+        Ok(()) => ExitCode::SUCCESS,
         Err(failure) => {
             tell(&rt, &failure);
-            Err(failure)
+            ExitCode::FAILURE
         }
     }
 }

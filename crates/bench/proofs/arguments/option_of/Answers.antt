@@ -19,5 +19,5 @@ none s a b d e = simp (a, b, d, e)
 pub returns-in_default : goal.returns-in_default
 returns-in_default c =
     let w = c.args.word.now in
-    none w (differs w (codes "--levels") c.in-default.not-text) (differs w (codes "--order") c.in-default.not-text-2)
-    (differs w (codes "--listener") c.in-default.not-text-3) (differs w (codes "--model") c.in-default.not-text-4)
+    none w (differs w (codes "--levels") c.in_default.not-text) (differs w (codes "--order") c.in_default.not-text-2)
+    (differs w (codes "--listener") c.in_default.not-text-3) (differs w (codes "--model") c.in_default.not-text-4)

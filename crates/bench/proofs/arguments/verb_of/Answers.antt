@@ -14,4 +14,4 @@ pub returns-in_default : goal.returns-in_default
 returns-in_default c =
     let w = c.args.word.now in
     none w (differs w (codes "show") c.in_default.not-show) (differs w (codes "clear") c.in_default.not-clear) (differs w (codes "help") c.in_default.not-help)
-    (differs w (codes "--help") c.in-default.not-text) (differs w (codes "-h") c.in-default.not-text-2)
+    (differs w (codes "--help") c.in_default.not-text) (differs w (codes "-h") c.in_default.not-text-2)
