@@ -1,4 +1,5 @@
 //! The fitters' program: shows a listing, and says whether it is cleared or where it leaks.
+#![tactic(auto)]
 
 mod arguments;
 mod clear;

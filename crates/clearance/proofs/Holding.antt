@@ -1,8 +1,7 @@
 -- The operands of a node, one after the other, each held to its bound.
-use Rattle.std.proofs.Common.{◌≡◌, ℕ, ◌+◌, ◌<◌, ◌≤◌, Bool, true, false, cond, ◌⊎◌, ◌↔◌, List, length, Some, None, Option, sym, refl, ap, ◌∙◌, subst, subst₂, inl, inr, arith}
+use Rattle.std.proofs.Common.{◌≡◌, ℕ, ◌<◌, ◌≤◌, Bool, true, false, ◌⊎◌, List, length, Some, None, Option, sym, refl, ◌∙◌, subst, subst₂, inl, inr, arith}
 use Rattle.std.proofs.lemmas.Bool.{cases_Bool, both_ways}
 use Rattle.levels.specs.declared.name_set.NameSet.{NameSet}
-use Rattle.levels.specs.Names.{Has}
 use Rattle.rules.specs.declared.Operator.{Operator}
 use Rattle.rules.specs.declared.Side.TheVariants.{Left, Right}
 use Rattle.rules.specs.declared.Node.{Node}
@@ -10,7 +9,7 @@ use Rattle.rules.specs.declared.Node.TheVariants.{Constant, Move, Operate, Selec
 use Rattle.listing.specs.declared.routine.Routine.{Routine as Loaded}
 use Rattle.rules.specs.Order.{Order}
 use Rattle.rules.specs.Leakage.{Leakage}
-use Rattle.rules.specs.Routine.{Routine, arrays, region}
+use Rattle.rules.specs.Routine.{Routine, region}
 use Rattle.rules.specs.Reach.{Reaches}
 use Rattle.listing.specs.Forms.{routine_of}
 use Rattle.rules.specs.Clearance.{Setting, Held, bound}
@@ -23,7 +22,7 @@ use Rattle.reach.specs.declared.table.ReachTable.{ReachTable}
 use Rattle.reach.specs.Table.{cell, TellsReach}
 use Rattle.levels.specs.Tables.{start_level, FlowTo}
 use Rattle.clearance.specs.Scenes.{scene, setting, Fitting}
-use Rattle.clearance.specs.Stops.{Named, OperandAnswer, Stop, LowestStop, NodeAnswer, or_else}
+use Rattle.clearance.specs.Stops.{OperandAnswer, Stop, NodeAnswer, or_else}
 
 module _ {L : Type 0} (c : Setting L) (p : ℕ) (n : Node) where
   -- Scalar k, which is operand w where `held` says so, held to bound b.

@@ -1,8 +1,8 @@
 -- The search over the nodes, one after the other.
-use Rattle.std.proofs.Common.{◌≡◌, ℕ, ◌+◌, ◌<◌, ◌≤◌, ◌⊎◌, Some, None, Option, sym, refl, ap, ◌∙◌, subst, inl, inr, arith}
+use Rattle.std.proofs.Common.{ℕ, ◌+◌, ◌<◌, ◌≤◌, None, sym, subst, inl, inr, arith}
 use Rattle.std.proofs.lemmas.Bool.{cases_eq, cases_order}
 use Rattle.rules.specs.Routine.{node, end}
-use Rattle.rules.specs.Clearance.{Setting, Violation, NoViolation, Leak, NotAfter}
+use Rattle.rules.specs.Clearance.{Setting, Violation, NoViolation, Leak}
 use Rattle.clearance.specs.declared.leak.LeakSite.{LeakSite}
 use Rattle.clearance.specs.Stops.{Stop, LowestStop, NodeAnswer}
 

@@ -1,5 +1,5 @@
 -- What is examined.
-use Rattle.std.specs.Prelude.{◌≡◌, ℕ, ◌+◌, List, length}
+use Rattle.std.specs.Prelude.{◌≡◌, ◌+◌, List, length}
 use Rattle.levels.specs.declared.name_set.NameSet.{NameSet}
 use Rattle.levels.specs.Tables.{start_level, FlowTo}
 use Rattle.listing.specs.declared.parts.Listing.{Listing}

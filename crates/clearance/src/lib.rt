@@ -1,4 +1,5 @@
 //! Clearance: a routine is examined under a leakage model, and a clearance is handed out where nothing leaks.
+#![tactic(auto)]
 
 mod clearing;
 mod examining;

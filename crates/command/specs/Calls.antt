@@ -1,5 +1,5 @@
 -- What the words of a call ask for.
-use Rattle.std.specs.Prelude.{ℕ, ◌+◌, Bool, cond, List, [], ◌∷◌, Some, None, Ok, Err, string_bytes, Option, Result, String}
+use Rattle.std.specs.Prelude.{ℕ, ◌+◌, cond, List, [], ◌∷◌, Some, None, Ok, Err, string_bytes, Option, Result, String}
 use Rattle.command.specs.declared.calling.Call.{Call}
 use Rattle.command.specs.declared.calling.Call.TheVariants.{Help, On}
 use Rattle.command.specs.declared.calling.CallFault.{CallFault}

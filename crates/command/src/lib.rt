@@ -1,4 +1,5 @@
 //! The call of the fitters' program: which command, on which file, with which options.
+#![tactic(auto)]
 
 mod calling;
 mod draft;

@@ -1,4 +1,5 @@
 //! Small listings to hand, as bytes, each with the routine that it is. Tests of load and write stand below them.
+#![tactic(auto)]
 
 ghost use Rattle.std.specs.Prelude.{◌≡◌, [], ◌∷◌, Ok};
 ghost use Rattle.rules.specs.declared.Node.TheVariants.{Constant, Move, Operate, Read, Write, While, EndWhile};

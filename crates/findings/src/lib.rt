@@ -1,4 +1,5 @@
 //! What a clearing finds: the record of a clearance or a leak.
+#![tactic(auto)]
 
 mod finding;
 mod leaking;

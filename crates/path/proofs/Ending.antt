@@ -1,7 +1,7 @@
 -- What a hunt keeps, and why one that finds no beginning shows that there is none.
-use Rattle.std.proofs.Common.{◌≡◌, ℕ, ◌+◌, ◌<◌, ◌≤◌, true, false, ◌⊎◌, sym, refl, ap, ◌∙◌, subst, inl, inr, arith}
+use Rattle.std.proofs.Common.{◌≡◌, ℕ, ◌+◌, ◌<◌, ◌≤◌, sym, refl, ap, ◌∙◌, subst, inl, inr, arith}
 use Rattle.std.proofs.lemmas.Bool.{cases_eq, cases_lt}
-use Rattle.rules.specs.Routine.{Routine, WellFormed, end, node}
+use Rattle.rules.specs.Routine.{Routine, WellFormed}
 use Rattle.rules.specs.Reach.{Reaches}
 use Rattle.rules.specs.Reach.Reaches.{here, kept, from_scalar, from_array}
 use Rattle.rules.proofs.Reaching.{reached_scalar}
@@ -11,7 +11,7 @@ use Rattle.path.specs.declared.place.Origin.TheVariants.{Start, Read}
 use Rattle.path.specs.declared.hunt.Entry.{Entry}
 use Rattle.path.specs.declared.hunt.Hunt.{Hunt}
 use Rattle.path.specs.Ways.{Moves, Begins, at_place}
-use Rattle.path.specs.Hunts.{entry_at, place_at, seen_at, Extends, MetAt, Hunting}
+use Rattle.path.specs.Hunts.{entry_at, place_at, Extends, MetAt, Hunting}
 
 module _ (r : Routine) (m : ℕ) (to : Place) where
   module _ (h new : Hunt) (i : ℕ) (H : Hunting r m to h i) (within : i < h.count) (none : (o : Origin) → Begins r m (place_at h i) o → ⊥)

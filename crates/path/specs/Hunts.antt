@@ -1,6 +1,6 @@
 -- The hunt for a way, backwards from its end.
 use Rattle.std.specs.Prelude.{◌≡◌, ℕ, ◌+◌, ◌-◌, ◌*◌, ◌<◌, ◌≤◌, Bool, true, false, cond, List, length, sum_by, slice_index_or}
-use Rattle.rules.specs.Routine.{Routine, end}
+use Rattle.rules.specs.Routine.{Routine}
 use Rattle.path.specs.declared.place.Place.{Place}
 use Rattle.path.specs.declared.place.Origin.{Origin}
 use Rattle.path.specs.declared.hunt.Entry.{Entry}

@@ -1,4 +1,5 @@
 //! By which way a start name reaches a scalar at a point, and a leak its operand.
+#![tactic(auto)]
 
 mod hunt;
 mod leaking;

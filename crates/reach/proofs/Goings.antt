@@ -1,16 +1,15 @@
 -- What each step keeps, and why the last table is exact.
-use Rattle.std.proofs.Common.{◌≡◌, ℕ, ◌+◌, ◌<◌, ◌≤◌, Bool, true, false, ◌||◌, ◌⊎◌, ◌↔◌, sym, refl, subst, inl, inr, arith}
+use Rattle.std.proofs.Common.{◌≡◌, ℕ, ◌+◌, ◌<◌, ◌≤◌, Bool, false, ◌||◌, ◌⊎◌, sym, refl, subst, inl, inr, arith}
 use Rattle.std.proofs.lemmas.Bool.{cases_eq, both_ways, or_cases, or_parts}
 use Rattle.levels.specs.Names.{Has}
 use Rattle.rules.specs.Routine.{Routine, node, end, Next}
 use Rattle.rules.specs.Reach.{Reaches}
 use Rattle.rules.specs.Reach.Reaches.{here, kept, from_scalar, from_array}
-use Rattle.reach.specs.declared.table.Row.{Row}
 use Rattle.reach.specs.declared.table.ReachTable.{ReachTable}
 use Rattle.reach.specs.declared.work.Work.{Work}
 use Rattle.reach.specs.Passing.{Flow}
 use Rattle.reach.specs.Table.{at, row_at, cell, TellsReach}
-use Rattle.reach.specs.Work.{Shaped, pending_at, Passes, Passed, Settled, Going, Sweeping, Swept, Started}
+use Rattle.reach.specs.Work.{pending_at, Passes, Passed, Settled, Going, Sweeping, Swept, Started}
 
 -- what a sound table passes on reaches
 passes_sound :

@@ -1,11 +1,9 @@
 -- What is known of a loaded routine.
-use Rattle.std.proofs.Common.{◌≡◌, ℕ, ◌<◌, ◌≤◌, length, get_or, take, sym, subst, subst₂, arith}
+use Rattle.std.proofs.Common.{◌≡◌, ℕ, ◌<◌, ◌≤◌, get_or, subst, arith}
 use Rattle.std.proofs.lemmas.List.{get_or-take, get_or_past, length-take-le}
-use Rattle.rules.specs.declared.Node.{Node}
 use Rattle.rules.specs.declared.Node.TheVariants.{Constant}
 use Rattle.rules.specs.declared.Region.{Region}
 use Rattle.rules.specs.Routine.{WellFormed, Accepted, OperandsExist, Next, node, region, arrays, end}
-use Rattle.listing.specs.declared.parts.Listing.{Listing}
 use Rattle.listing.specs.declared.routine.Routine.{Routine}
 use Rattle.listing.specs.Forms.{routine_of, WellFormedListing}
 use Rattle.listing.proofs.Sounds.{sound_formed}

@@ -1,12 +1,10 @@
 -- The table before the first step.
-use Rattle.std.proofs.Common.{◌≡◌, ℕ, zero, suc, ◌+◌, ◌<◌, ◌≤◌, true, false, ◌⊎◌, ◌↔◌, List, [], ◌∷◌, length, get_or, set, replicate, refl, inl, inr, arith}
+use Rattle.std.proofs.Common.{◌≡◌, ℕ, zero, suc, ◌+◌, ◌<◌, ◌≤◌, true, false, ◌↔◌, [], ◌∷◌, length, get_or, set, replicate, refl, inl, inr, arith}
 use Rattle.std.proofs.lemmas.List.{get_or-set_same, get_or-set_other, get_or-replicate, get_or_past, length-replicate}
 use Rattle.std.proofs.lemmas.Bool.{cases_eq, cases_lt}
 use Rattle.levels.specs.declared.name_set.NameSet.{NameSet}
 use Rattle.levels.specs.Names.{Has, no_names}
 use Rattle.reach.specs.declared.table.Row.{Row}
-use Rattle.reach.specs.declared.table.ReachTable.{ReachTable}
-use Rattle.reach.specs.declared.work.Work.{Work}
 use Rattle.reach.specs.Table.{at}
 use Rattle.reach.specs.Work.{Started}
 use Rattle.reach.proofs.Joining.{none_empty}

@@ -1,11 +1,10 @@
 -- What reaches a point is passed on to its next points.
-use Rattle.std.proofs.Common.{◌≡◌, ℕ, ◌+◌, ◌<◌, ◌≤◌, Bool, true, false, ◌||◌, ◌⊎◌, ◌↔◌, set, sym, ap, ◌∙◌, inl, inr, arith}
+use Rattle.std.proofs.Common.{◌≡◌, ℕ, ◌<◌, ◌≤◌, Bool, true, false, ◌||◌, ◌⊎◌, ◌↔◌, set, sym, ap, ◌∙◌, inl, inr, arith}
 use Rattle.std.proofs.lemmas.List.{get_or-set_same, get_or-set_other}
 use Rattle.std.proofs.lemmas.Bool.{cases_eq, cases_Bool, or_cases, or_parts}
 use Rattle.levels.specs.Names.{Has}
 use Rattle.rules.specs.Routine.{Routine, node, Next}
 use Rattle.reach.specs.declared.table.Row.{Row}
-use Rattle.reach.specs.declared.table.ReachTable.{ReachTable}
 use Rattle.reach.specs.declared.work.Work.{Work}
 use Rattle.reach.specs.Table.{at, row_at, cell}
 use Rattle.reach.specs.Work.{room, Shaped, pending_at, Passes, Put, Passed}

@@ -1,5 +1,5 @@
 -- A reach table that is being filled.
-use Rattle.std.specs.Prelude.{◌≡◌, ℕ, ◌+◌, ◌<◌, ◌≤◌, Bool, true, false, ◌⊎◌, ◌↔◌, length, sum_by, ◌≢◌, slice_index_or}
+use Rattle.std.specs.Prelude.{◌≡◌, ℕ, ◌<◌, ◌≤◌, Bool, true, false, ◌⊎◌, ◌↔◌, length, sum_by, ◌≢◌, slice_index_or}
 use Rattle.levels.specs.Names.{Has}
 use Rattle.rules.specs.Routine.{Routine, node, end, Next}
 use Rattle.rules.specs.Reach.{Reaches}

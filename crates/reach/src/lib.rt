@@ -1,4 +1,5 @@
 //! Which start names reach which scalar at which point, and which names are open there.
+#![tactic(auto)]
 
 mod filling;
 mod merge;

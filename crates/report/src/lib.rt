@@ -1,4 +1,5 @@
 //! The record of a listing: what a routine is, node by node, or why the listing was refused.
+#![tactic(auto)]
 
 pub mod record;
 pub mod sheet;

@@ -1,4 +1,5 @@
 //! The run of a cleared routine: started with a clearance, advanced, fed and asked, and closed.
+#![tactic(auto)]
 
 mod faults;
 mod memory;

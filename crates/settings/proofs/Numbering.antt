@@ -1,5 +1,5 @@
 -- The numbers of owners, one turn after another. Assumes nothing.
-use Rattle.std.proofs.Common.{◌≡◌, ℕ, suc, ◌+◌, ◌-◌, ◌/◌, ◌%◌, ◌<◌, ◌≤◌, Bool, true, false, cond, eqb, List, [], ◌++◌, decimal, refl, ap, ◌∙◌, arith, ne_eqb}
+use Rattle.std.proofs.Common.{◌≡◌, ℕ, suc, ◌+◌, ◌-◌, ◌/◌, ◌%◌, ◌<◌, ◌≤◌, Bool, true, false, eqb, [], ◌++◌, decimal, refl, ap, ◌∙◌, arith, ne_eqb}
 use Rattle.settings.specs.Names.{owner_numbers, all_numbers, separator}
 
 pub number_step : (f : Bool) (s k : ℕ) → k < 16 → s % 2 ≡ 1 → owner_numbers f s k (16 - k) ≡ (separator f ++ decimal k) ++ owner_numbers false (s / 2) (k + 1) (16 - (k + 1))

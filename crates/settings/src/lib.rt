@@ -1,4 +1,5 @@
 //! What a clearing is set to: the model, and the levels, by their names.
+#![tactic(auto)]
 
 pub mod model;
 pub mod named;

@@ -8,7 +8,6 @@ use Rattle.rules.proofs.Proved.{two_runs}
 use Rattle.listing.specs.declared.routine.Routine.{Routine}
 use Rattle.reach.proofs.Loaded.{formed_of, arrays_of}
 use Rattle.clearance.specs.declared.record.Examination.{Examination}
-use Rattle.clearance.specs.declared.outcome.Outcome.TheVariants as outcome
 use Rattle.clearance.specs.Outcomes.{is_granted}
 use Rattle.clearance.specs.Opens.{opens_of}
 use Rattle.clearance.specs.Scenes.{Scene, scene, setting}

@@ -1,4 +1,5 @@
 //! Lists of calls with their logs, and two runs side by side: what the listener hears of both is the same.
+#![tactic(auto)]
 
 mod call;
 mod pair;

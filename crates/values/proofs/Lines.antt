@@ -1,9 +1,8 @@
 -- The first line of a text, and the lines that follow it.
-use Rattle.std.proofs.Common.{◌≡◌, ℕ, suc, ◌+◌, ◌<◌, Bool, true, false, cond, not, eqb, List, [], ◌∷◌, length, take, drop, Ok, Err, Result, sym, refl, ap, ◌∙◌, subst, arith, length-drop}
+use Rattle.std.proofs.Common.{◌≡◌, ℕ, suc, ◌+◌, ◌<◌, Bool, true, false, cond, not, eqb, List, [], ◌∷◌, length, take, drop, Ok, sym, refl, ap, ◌∙◌, arith, length-drop}
 use Rattle.listing.specs.declared.parts.Listing.{Listing}
 use Rattle.values.specs.declared.words.Stretch.TheVariants.{Line}
 use Rattle.values.specs.declared.draft.Draft.{Draft}
-use Rattle.values.specs.declared.faults.Reason.{Reason}
 use Rattle.values.specs.Words.{within, run, lines_of, in_front}
 use Rattle.values.specs.Values.{put_line, at_line, values_from}
 

@@ -1,5 +1,5 @@
 -- What a text of values gives to a routine's scalars and arrays.
-use Rattle.std.specs.Prelude.{ℕ, ◌+◌, Bool, true, false, cond, List, [], ◌∷◌, replicate, Ok, Err, Result, nat_le, slice_index_or, slice_set}
+use Rattle.std.specs.Prelude.{ℕ, ◌+◌, true, false, cond, List, [], ◌∷◌, replicate, Ok, Err, Result, nat_le, slice_index_or, slice_set}
 use Rattle.rules.specs.Routine.{region}
 use Rattle.listing.specs.declared.parts.Listing.{Listing}
 use Rattle.listing.specs.Forms.{routine_of}

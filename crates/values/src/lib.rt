@@ -2,6 +2,7 @@
 //!
 //! One `scalar K V` or `array J I V` to a line, the words parted by blanks or tabs; `#` begins a comment, which ends with its line. What is
 //! not named is 0.
+#![tactic(auto)]
 
 mod draft;
 mod entry;

@@ -1,4 +1,4 @@
-use Rattle.std.proofs.Common.{◌≡◌, ◌+◌, sym, refl, ap, ◌∙◌, subst}
+use Rattle.std.proofs.Common.{◌+◌, sym, refl, ap, ◌∙◌, subst}
 use Rattle.listing.specs.declared.parts.Counts.{Counts}
 use Rattle.clearance.specs.Scenes.{scene, setting, Fitting}
 use Rattle.clearance.specs.Examinations.{RightOutcome}

@@ -1,4 +1,4 @@
-use Rattle.std.proofs.Common.{◌≡◌, ◌<◌, ◌≤◌, ap, subst, arith}
+use Rattle.std.proofs.Common.{◌<◌, ◌≤◌, ap, subst, arith}
 use Rattle.listing.specs.declared.parts.Counts.{Counts}
 use Rattle.listing.specs.Forms.{routine_of}
 use Rattle.rules.specs.Routine.{node, end}

@@ -1,4 +1,4 @@
-use Rattle.std.proofs.Common.{◌≡◌, None, sym, refl, ap, ◌∙◌, subst}
+use Rattle.std.proofs.Common.{None, sym, refl, ap, ◌∙◌, subst}
 use Rattle.rules.specs.declared.Node.TheVariants.{If, While, Operate, Read}
 use Rattle.clearance.specs.Scenes.{scene, setting}
 use Rattle.clearance.specs.Stops.{OperandAnswer, NodeAnswer, or_else}

@@ -1,7 +1,6 @@
 use Rattle.std.proofs.Common.{◌≡◌, ◌+◌, ◌<◌, length, get_or, sym, refl, ap, ◌∙◌, subst, arith}
 use Rattle.std.proofs.lemmas.List.{get_or_read}
 use Rattle.rules.specs.declared.Node.TheVariants.{Write}
-use Rattle.rules.specs.Routine.{region}
 use Rattle.clearance.specs.Scenes.{scene, setting}
 use Rattle.clearance.specs.Stops.{OperandAnswer, or_else}
 use Rattle.clearance.proofs.Holding.{held_of, write_answer}

@@ -1,4 +1,4 @@
-use Rattle.std.proofs.Common.{◌≡◌, ap, ◌∙◌, subst, inl, inr}
+use Rattle.std.proofs.Common.{ap, ◌∙◌, subst, inl, inr}
 use Rattle.listing.specs.declared.routine.Routine.{Routine}
 use Rattle.texts.specs.Refusals.{refusal_text}
 use Rattle.findings.specs.declared.finding.Finding.{Finding}

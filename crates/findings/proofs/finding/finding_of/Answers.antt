@@ -1,4 +1,4 @@
-use Rattle.std.proofs.Common.{◌≡◌, ℕ, List, ◌++◌, length, string_bytes, ap, ◌∙◌, subst}
+use Rattle.std.proofs.Common.{ℕ, List, ◌++◌, length, string_bytes, ap, ◌∙◌, subst}
 use Rattle.listing.specs.declared.parts.Counts.{Counts}
 use Rattle.listing.specs.declared.routine.Routine.{Routine}
 use Rattle.clearance.specs.declared.outcome.Outcome.{Outcome}

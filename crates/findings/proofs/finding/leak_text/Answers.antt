@@ -1,4 +1,4 @@
-use Rattle.std.proofs.Common.{◌≡◌, ℕ, List, ◌++◌, Some, None, string_bytes, sym, ap, ◌∙◌, subst, append-nil}
+use Rattle.std.proofs.Common.{ℕ, List, ◌++◌, Some, None, string_bytes, sym, ap, ◌∙◌, subst, append-nil}
 use Rattle.listing.specs.declared.routine.Routine.{Routine}
 use Rattle.listing.specs.Forms.{routine_of}
 use Rattle.clearance.specs.declared.outcome.Outcome.{Outcome}

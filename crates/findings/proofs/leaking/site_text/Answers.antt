@@ -1,4 +1,4 @@
-use Rattle.std.proofs.Common.{◌≡◌, string_bytes, ap, ◌∙◌}
+use Rattle.std.proofs.Common.{string_bytes, ap, ◌∙◌}
 use Rattle.listing.specs.declared.parts.Counts.{Counts}
 use Rattle.rules.specs.declared.Node.{Node}
 use Rattle.findings.specs.Leaks.{bound_array, place_text, reason_text}

@@ -1,10 +1,10 @@
-use Rattle.std.proofs.Common.{◌≡◌, ℕ, ◌+◌, ◌<◌, true, false, sym, refl, ap, ◌∙◌, subst, arith}
+use Rattle.std.proofs.Common.{ℕ, ◌+◌, ◌<◌, sym, ap, subst, arith}
 use Rattle.std.proofs.lemmas.Bool.{both_ways}
 use Rattle.listing.specs.declared.parts.Counts.{Counts}
 use Rattle.listing.specs.Forms.{routine_of}
 use Rattle.rules.specs.Routine.{node, end, Next}
 use Rattle.path.specs.declared.hunt.Hunt.{Hunt}
-use Rattle.path.specs.Ways.{Moves, Carries}
+use Rattle.path.specs.Ways.{Carries}
 use Rattle.path.specs.Hunts.{place_at, Extends, MetAt}
 use Rattle.path.proofs.Extending.{extends_none, note_taken, note_passed}
 use Rattle.path.proofs.hunt.note_at.Goals as goal

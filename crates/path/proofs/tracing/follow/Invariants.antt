@@ -1,5 +1,3 @@
-use Rattle.std.proofs.Common.{◌≡◌}
-use Rattle.path.specs.Hunts.{place_at, entry_at}
 use Rattle.path.proofs.Following.{Following}
 use Rattle.path.proofs.tracing.follow.Given as goal
 

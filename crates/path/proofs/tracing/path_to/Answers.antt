@@ -1,4 +1,4 @@
-use Rattle.std.proofs.Common.{◌≡◌, ◌<◌, ◌≤◌, sym, ap, subst, inl, inr, arith}
+use Rattle.std.proofs.Common.{◌<◌, ◌≤◌, sym, ap, subst, inl, inr, arith}
 use Rattle.listing.specs.declared.parts.Counts.{Counts}
 use Rattle.listing.specs.Forms.{routine_of}
 use Rattle.reach.proofs.Loaded.{formed_of}

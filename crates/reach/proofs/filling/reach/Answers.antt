@@ -1,4 +1,4 @@
-use Rattle.std.proofs.Common.{◌≤◌, subst, arith}
+use Rattle.std.proofs.Common.{◌≤◌, subst}
 use Rattle.rules.specs.Routine.{end}
 use Rattle.listing.specs.Forms.{routine_of}
 use Rattle.listing.specs.declared.parts.Counts.{Counts}

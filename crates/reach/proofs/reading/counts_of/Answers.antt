@@ -1,4 +1,4 @@
-use Rattle.std.proofs.Common.{◌≡◌, sym, ap, ◌∙◌, subst}
+use Rattle.std.proofs.Common.{sym, ap, ◌∙◌, subst}
 use Rattle.listing.specs.declared.parts.Counts.{Counts}
 use Rattle.listing.specs.declared.parts.Listing.{Listing}
 use Rattle.reach.specs.Limits.{WithinLimits}

@@ -1,4 +1,4 @@
-use Rattle.std.proofs.Common.{◌≡◌, ℕ, ◌<◌, ◌≤◌, false, ◌⊎◌, ◌↔◌, sym, refl, ap, ◌∙◌, subst, subst₂, inl, inr, arith}
+use Rattle.std.proofs.Common.{◌≡◌, ℕ, ◌≤◌, false, ◌⊎◌, ◌↔◌, refl, ap, ◌∙◌, subst, subst₂, inl, inr, arith}
 use Rattle.std.proofs.lemmas.List.{length-set}
 use Rattle.levels.specs.Names.{Has}
 use Rattle.rules.specs.Routine.{Next, node}
@@ -7,7 +7,7 @@ use Rattle.listing.specs.declared.parts.Counts.{Counts}
 use Rattle.reach.specs.Passing.{Flow}
 use Rattle.reach.specs.Table.{at, cell}
 use Rattle.reach.proofs.Loaded.{limits_of}
-use Rattle.reach.proofs.Steps.{Back, passed}
+use Rattle.reach.proofs.Steps.{passed}
 use Rattle.reach.proofs.work.pass_on.Goals as goal
 
 pub put-first-requires : goal.put-first-requires

@@ -1,4 +1,4 @@
-use Rattle.std.proofs.Common.{◌≡◌, ◌+◌, ◌<◌, sym, subst₂, arith}
+use Rattle.std.proofs.Common.{◌+◌, ◌<◌, sym, subst₂, arith}
 use Rattle.rules.specs.Routine.{end}
 use Rattle.listing.specs.Forms.{routine_of}
 use Rattle.reach.specs.Work.{Sweeping}

@@ -1,4 +1,4 @@
-use Rattle.std.proofs.Common.{◌≡◌, ℕ, ◌+◌, ◌≤◌, List, ◌++◌, length, get_or, drop, string_bytes, sym, ap, ◌∙◌, subst, arith, false-eqb}
+use Rattle.std.proofs.Common.{◌≡◌, ℕ, ◌+◌, List, ◌++◌, length, get_or, drop, string_bytes, sym, ap, ◌∙◌, subst, arith, false-eqb}
 use Rattle.rules.specs.declared.Node.TheVariants.{Constant}
 use Rattle.report.specs.Records.{node_rows, nodes_heading, nodes_table}
 use Rattle.texts.proofs.Adding.{onto_is, turned, ended}

@@ -1,4 +1,4 @@
-use Rattle.std.proofs.Common.{ℕ, List, ◌++◌, length, string_bytes, sym, ap, ◌∙◌, arith, false-eqb}
+use Rattle.std.proofs.Common.{ℕ, List, ◌++◌, length, string_bytes, ap, ◌∙◌, arith, false-eqb}
 use Rattle.report.specs.Records.{region_rows, regions_heading}
 use Rattle.texts.proofs.Adding.{onto_is, turned, ended}
 use Rattle.report.proofs.Rows.{region_step, regions_all, some_regions}

@@ -1,10 +1,8 @@
 use Rattle.std.proofs.Common.{arith}
-use Rattle.std.proofs.lemmas.Slice.Eq.{slice_eq-Decides}
 use Rattle.listing.specs.Texts.{listing_text}
 use Rattle.listing.proofs.Sounds.{sound_formed}
 use Rattle.report.proofs.Back.{tested, front_text}
 use Rattle.report.proofs.sheet.writes_back.Goals as goal
-use Rattle.std.proofs.lemmas.Bool.Decides.{Decides-eqb}
 
 pub returns-in-Ok : goal.returns-in-Ok
 returns-in-Ok c =

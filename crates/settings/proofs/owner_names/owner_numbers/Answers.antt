@@ -1,6 +1,6 @@
-use Rattle.std.proofs.Common.{◌≡◌, ℕ, ◌+◌, ◌-◌, ◌/◌, Bool, true, false, List, ◌++◌, string_bytes, decimal, sym, ap, ◌∙◌, subst}
+use Rattle.std.proofs.Common.{◌≡◌, ℕ, ◌+◌, ◌-◌, ◌/◌, Bool, true, false, List, ◌++◌, string_bytes, decimal, sym, ap, ◌∙◌}
 use Rattle.texts.proofs.Adding.{onto_is, turned, ended}
-use Rattle.settings.specs.Names.{owner_numbers, all_numbers, separator}
+use Rattle.settings.specs.Names.{owner_numbers}
 use Rattle.settings.proofs.Numbering.{number_step, number_pass, numbers_all, all_is}
 use Rattle.settings.proofs.owner_names.owner_numbers.Goals as goal
 use Rattle.settings.proofs.owner_names.owner_numbers.Goals.{then-left-eq1+in_ok-number+in_ok-push_str, else-left-eq1}

@@ -1,4 +1,4 @@
-use Rattle.std.proofs.Common.{◌≡◌, ℕ, ◌+◌, List, length, drop, is_some, None, vec_items, sym, ap, ◌∙◌, arith, false-eqb}
+use Rattle.std.proofs.Common.{◌+◌, length, drop, is_some, None, vec_items, sym, ap, ◌∙◌, arith, false-eqb}
 use Rattle.settings.specs.Tables.{codes_after, codes_of}
 use Rattle.settings.proofs.Bytes.{before, before_none, some_codes, codes_add, comma_turn, comma_stop, digit_turn, digit_stop, codes_end, codes_none}
 use Rattle.settings.proofs.reading.owner_sets.Goals as goal

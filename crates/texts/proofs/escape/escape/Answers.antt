@@ -1,4 +1,4 @@
-use Rattle.std.proofs.Common.{◌++◌, string_bytes, refl, ap}
+use Rattle.std.proofs.Common.{◌++◌, string_bytes, ap}
 use Rattle.texts.specs.Escapes.{escaped_text}
 use Rattle.texts.proofs.Adding.{turned, ended, escaped_step, escaped_all}
 use Rattle.texts.proofs.escape.escape.Goals as goal

@@ -1,4 +1,4 @@
-use Rattle.std.proofs.Common.{◌≡◌, ◌+◌, ◌<◌, ◌≤◌, length, drop, sym, refl, ap, ◌∙◌, arith, rules}
+use Rattle.std.proofs.Common.{◌≡◌, ◌+◌, ◌<◌, length, drop, sym, refl, ap, ◌∙◌, arith, rules}
 use Rattle.values.proofs.Lines.{by_line, shorter, no_lines}
 use Rattle.values.specs.Values.{at_line, values_from}
 use Rattle.values.specs.Words.{lines_of}
