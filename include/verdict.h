@@ -1,4 +1,4 @@
-/* The verdict on a routine, for a C program. Link with target/staticlib/libverdict.a (rt staticlib verdict). */
+/* The verdict on a routine, for a C program. Link with target/staticlib/libverdict.a (make staticlib). */
 #ifndef MOMENTGOAT_VERDICT_H
 #define MOMENTGOAT_VERDICT_H
 

@@ -2,14 +2,14 @@
 # Runs the program bench on the examples and on bad inputs, and compares what it writes, and its status, with tests/bench/expected/.
 #   tests/bench.sh            compare; fails on any difference
 #   tests/bench.sh --accept   write the expected files anew
-# The program is $BENCH, or target/bin/bench, which is built if it is not there.
+# The program is $BENCH, or target/bin/bench, which is then built of the sources as they stand.
 set -euo pipefail
 cd "$(dirname "$0")/.."
 repo=$PWD
 accept=no
 if [ "${1:-}" = --accept ]; then accept=yes; fi
 bench=${BENCH:-$repo/target/bin/bench}
-if [ ! -x "$bench" ]; then rt check bench > /dev/null; fi
+if [ -z "${BENCH:-}" ]; then bash tools/program.sh bench help; fi
 expected=$repo/tests/bench/expected
 work=$(mktemp -d)
 trap 'rm -rf "$work"' EXIT

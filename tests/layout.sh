@@ -7,7 +7,7 @@ complain() { echo "layout: $*" >&2; wrong=1; }
 
 for folder in crates/*/; do
   name=$(basename "$folder")
-  grep -q "^$name:" crates.txt || complain "crate $name is not in crates.txt"
+  grep -qE "^$name( staticlib)?:" crates.txt || complain "crate $name is not in crates.txt"
   if [ -f "$folder/src/lib.rt" ] && ! ls "$folder"/must-fail/*.edit >/dev/null 2>&1; then
     complain "library crate $name has no must-fail edit"
   fi

@@ -1,8 +1,10 @@
 #!/usr/bin/env bash
 # Runs the program marks on good and bad inputs and compares the slip.
+# The program is $MARKS, or target/bin/marks, which is then built of the sources as they stand.
 set -euo pipefail
 cd "$(dirname "$0")/.."
 marks=${MARKS:-target/bin/marks}
+if [ -z "${MARKS:-}" ]; then bash tools/program.sh marks; fi
 cases=0
 slip() { # EXPECTED, input on standard input
   cases=$((cases + 1))

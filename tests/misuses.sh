@@ -3,14 +3,17 @@
 # The two edits of tests/misuses/judge try the judge itself: one that compiles, and one that is refused for another reason.
 set -euo pipefail
 cd "$(dirname "$0")/.."
+# The host is a crate of its own, in a copy of the crates that it stands on.
 crates="rules levels leakage columns lines listing reach clearance run"
-externs=(-L "dependency=$PWD/target/rlib")
-for crate in $crates; do
-  [ -e "target/rlib/$crate.rlib" ] || { echo "misuses: $crate is not built: run rt check run" >&2; exit 1; }
-  externs+=(--extern "$crate=$PWD/target/rlib/$crate.rlib")
-done
 copy=$(mktemp -d)
 trap 'rm -rf "$copy"' EXIT
+for crate in $crates; do
+  mkdir -p "$copy/crates/$crate"
+  cp -r "crates/$crate/src" "crates/$crate/specs" "crates/$crate/proofs" "$copy/crates/$crate/"
+  grep "^$crate:" crates.txt >> "$copy/crates.txt"
+done
+echo "host: $crates" >> "$copy/crates.txt"
+mkdir -p "$copy/crates/host/src"
 
 # field EDIT NAME: the text of a line of an edit
 field() { sed -n "s/^$2: //p" "$1"; }
@@ -22,10 +25,8 @@ judge() {
   text=$(< tests/misuses/host.txt)
   rest=${text#*"$old"}
   [ "$rest" != "$text" ] && [ "${rest#*"$old"}" = "$rest" ] || { echo "the old text does not stand once"; return; }
-  rm -rf "$copy/host"
-  mkdir -p "$copy/host/src"
-  printf '%s\n' "${text/"$old"/"$new"}" > "$copy/host/src/lib.rt"
-  if rt check "$copy/host" "${externs[@]}" > "$copy/log" 2>&1; then echo accepted; return; fi
+  printf '%s\n' "${text/"$old"/"$new"}" > "$copy/crates/host/src/lib.rt"
+  if (cd "$copy/crates/host" && rt check) > "$copy/log" 2>&1; then echo accepted; return; fi
   first=$(grep -m 1 'error' "$copy/log" || true)
   case $first in *"$(field "$1" error)"*) echo refused ;; *) echo "another error: $first" ;; esac
 }

@@ -11,8 +11,8 @@ A bug is a file tools/plant/bugs/CRATE/LABEL.edit of four lines:
     new: TEXT
 
 The edits under crates/CRATE/must-fail/ are bugs too: rt ci tries those, and here they are tried with --must-fail.
-Each bug is put into a copy of the repository and `rt dev CRATE` is run there; what was proved before and has not changed is taken over,
-so a bug takes some seconds. The status is 0 if every bug is refused by the prover.
+Each bug is put into a copy of the crates, and `rt check` is run there in the bug's crate; what checks on this machine kept of what has not
+changed is taken over, so a bug takes some seconds once its crate was checked. The status is 0 if every bug is refused by the prover.
 """
 import argparse
 import concurrent.futures
@@ -48,14 +48,16 @@ def bugs_of(crate, must_fail):
 
 
 def refused_by(log):
-    """The function that is refused first, and the needs that do not close."""
+    """The function that is refused first, and the goals that are not proved."""
     for line in log.splitlines():
         found = re.match(r"(?:fn|impl|struct|enum|law) (\S+): (?:no proof|not proved)(.*)", line)
-        if not found or "it calls" in found[2] and "`search` does not close" not in found[2]:
+        if not found or "it calls" in found[2]:
             continue
-        needs = [need for need in re.findall(r"`([a-z][\w·-]*)`", found[2].split("it calls")[0].split("Answers.antt;")[-1]) if need != "search"]
-        stands = re.findall(r"Answers\.([\w·-]+)`", found[2])
-        return found[1], ", ".join((needs if "does not close" in found[2] else stands)[:3]) or "a lemma"
+        # goals that no file answers stand in the line itself, and those whose answer is wrong in the errors of the function's file
+        goals = re.findall(r"`([a-z][\w·-]*)`", found[2].split("did not prove", 1)[-1]) if "did not prove" in found[2] else []
+        file = "proofs/" + "/".join(found[1].split("::")[1:])
+        goals += re.findall(re.escape(file) + r"/\w+\.antt:\d+:\d+: error: `([a-z][\w·-]*)`", log)
+        return found[1], ", ".join(dict.fromkeys(goals[:3])) or "a lemma"
     return "", ""
 
 
@@ -67,7 +69,7 @@ def plant(bug, copy):
         return "bad edit: the old text does not stand once", "", "", 0
     path.write_text(text.replace(bug.old, bug.new))
     began = time.monotonic()
-    done = subprocess.run(["rt", "dev", bug.crate], cwd=copy, stdout=subprocess.PIPE, stderr=subprocess.STDOUT, text=True, errors="replace")
+    done = subprocess.run(["rt", "check"], cwd=copy / "crates" / bug.crate, stdin=subprocess.DEVNULL, stdout=subprocess.PIPE, stderr=subprocess.STDOUT, text=True, errors="replace")
     took = time.monotonic() - began
     path.write_text(text)
     if "logic=not-proved" in done.stdout:
@@ -85,13 +87,14 @@ def main():
     args.add_argument("--must-fail", action="store_true", help="try the must-fail edits too")
     args.add_argument("crates", nargs="*")
     args = args.parse_args()
-    every = [line.split(":")[0] for line in (ROOT / "crates.txt").read_text().splitlines() if line and not line.startswith("#")]
+    every = [line.split(":")[0].split()[0] for line in (ROOT / "crates.txt").read_text().splitlines() if line and not line.startswith("#")]
     bugs = [bug for crate in args.crates or every for bug in bugs_of(crate, args.must_fail)]
     with tempfile.TemporaryDirectory(prefix="plant") as work:
         copies = queue.Queue()
         for job in range(args.jobs):
             copy = pathlib.Path(work) / str(job)
-            shutil.copytree(ROOT, copy, ignore=shutil.ignore_patterns(".git", "must-fail"), symlinks=True)
+            shutil.copytree(ROOT / "crates", copy / "crates", ignore=shutil.ignore_patterns("out", "must-fail"))
+            shutil.copy(ROOT / "crates.txt", copy)
             copies.put(copy)
 
         def run(bug):
@@ -103,10 +106,10 @@ def main():
 
         rows, wrong = [], 0
         with concurrent.futures.ThreadPoolExecutor(args.jobs) as pool:
-            for bug, (verdict, function, needs, took) in pool.map(run, bugs):
+            for bug, (verdict, function, goals, took) in pool.map(run, bugs):
                 wrong += verdict != "refused"
-                print(f"{bug.crate}/{bug.label}: {verdict}, {function} {needs} ({took:.0f} s)", flush=True)
-                rows.append(f"| `{bug.crate}` | {bug.what} | `{bug.file}` | {verdict} | `{function}` | {needs} |")
+                print(f"{bug.crate}/{bug.label}: {verdict}, {function} {goals} ({took:.0f} s)", flush=True)
+                rows.append(f"| `{bug.crate}` | {bug.what} | `{bug.file}` | {verdict} | `{function}` | {goals} |")
         if args.table:
             args.table.write_text("\n".join(rows) + "\n")
     print(f"{len(bugs)} bugs planted, {len(bugs) - wrong} refused, {wrong} not")

@@ -1,4 +1,5 @@
-//! Load, clear and advance as C functions, beside the verdict, so that each can be timed from outside.
+//! Load, clear and advance, each by a number, beside the verdict, so that each can be timed. C programs call them through probe_c.
+#![tactic(auto)]
 
 mod clearing;
 mod loading;

@@ -7,8 +7,7 @@ ghost use Rattle.probe.specs.Probes.{load_number};
 use listing::load;
 
 /// Loads the listing; 0, or the number of the refusal.
-#[unsafe(no_mangle)]
-pub extern "C" fn probe_load(listing: &[u8]) -> u32
+pub fn probe_load(listing: &[u8]) -> u32
     ensures { result ≡ load_number (listing_read listing.now) }
 {
     match load(listing) {

@@ -41,8 +41,7 @@ fn public_exam(routine: Routine) -> Examination<Baseline>
 }
 
 /// Runs the listing, with all public, from a memory of zeros, one step for each place; the count of the steps.
-#[unsafe(no_mangle)]
-pub extern "C" fn probe_advance(listing: &[u8], lines: &mut [LeakLine]) -> usize
+pub fn probe_advance(listing: &[u8], lines: &mut [LeakLine]) -> usize
     ensures { Probed (listing_read listing.now) (length lines.old) result }
 {
     match load(listing) {

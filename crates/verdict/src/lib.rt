@@ -1,4 +1,4 @@
-//! The verdict slip on level digits and a listing, as a C function.
+//! The verdict slip on level digits and a listing. C programs call it through verdict_c.
 
 mod digits;
 mod input;
@@ -12,8 +12,7 @@ pub use judging::judge;
 pub use slip::{Slip, slip_text};
 
 /// Writes the verdict slip into the first 53 bytes of `out` and answers 0; where `out` is shorter it touches nothing and answers 16.
-#[unsafe(no_mangle)]
-pub extern "C" fn verdict(levels: &[u8], listing: &[u8], out: &mut [u8]) -> u32
+pub fn verdict(levels: &[u8], listing: &[u8], out: &mut [u8]) -> u32
     ensures { Answered levels.now listing.now out.old out.new result }
 {
     if out.len() < 53 {

@@ -1,4 +1,4 @@
-use Rattle.std.proofs.Common.{◌≡◌, ℕ, length, Ok, Err, Result, sym, refl, ap, ◌∙◌, subst}
+use Rattle.std.proofs.Common.{◌≡◌, ℕ, length, Ok, Result, sym, ap, ◌∙◌, subst}
 use Rattle.listing.specs.declared.faults.RoutineFault.{RoutineFault}
 use Rattle.listing.specs.declared.parts.Listing.{Listing}
 use Rattle.listing.specs.declared.routine.Routine.{Routine}
