@@ -1,5 +1,5 @@
 #!/usr/bin/env bash
-# The tree keeps its layout: every crate is listed and has its must-fail edits, every example has lines of 51 bytes.
+# The tree keeps its layout: every crate is listed and has its must-fail edits, each of which can be made, every example has lines of 51 bytes.
 set -euo pipefail
 cd "$(dirname "$0")/.."
 wrong=0
@@ -16,6 +16,11 @@ done
 for edit in crates/*/must-fail/*.edit; do
   [ -e "$edit" ] || continue
   [ "$(sed -n 's/^\(file\|old\|new\): .*/\1/p' "$edit" | tr '\n' ' ')" = "file old new " ] || complain "$edit has not the lines file, old, new"
+  old=$(sed -n 's/^old: //p' "$edit")
+  file=$(dirname "$edit")/../$(sed -n 's/^file: //p' "$edit")
+  text=$(cat "$file" 2>/dev/null || true)
+  rest=${text#*"$old"}
+  [ "$rest" != "$text" ] && [ "${rest#*"$old"}" = "$rest" ] || complain "the old text of $edit does not stand once"
 done
 
 for listing in examples/*.lst; do

@@ -1,4 +1,5 @@
 //! Standard input to verdict slip: level digits up to the first newline, then a listing.
+#![tactic(auto)]
 
 use std::io;
 use std::io::{Read, Write};

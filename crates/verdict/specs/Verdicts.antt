@@ -1,5 +1,5 @@
 -- The verdict on level digits and a listing, by the rules.
-use Rattle.std.specs.Prelude.{◌≡◌, ℕ, ◌<◌, ◌≤◌, min, List, map, length, drop, Some, None, Ok, Err, Option, Result}
+use Rattle.std.specs.Prelude.{◌≡◌, ℕ, ◌<◌, ◌≤◌, min, List, map, length, Some, None, Ok, Err, Option, Result}
 use Rattle.levels.specs.declared.secrecy.Secrecy.{Secrecy}
 use Rattle.levels.specs.declared.secrecy.Secrecy.TheVariants.{Public}
 use Rattle.levels.specs.Secrecy.{secrecy_order}

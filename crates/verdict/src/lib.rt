@@ -1,4 +1,5 @@
 //! The verdict slip on level digits and a listing. C programs call it through verdict_c.
+#![tactic(auto)]
 
 mod digits;
 mod input;

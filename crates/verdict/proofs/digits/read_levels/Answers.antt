@@ -1,4 +1,4 @@
-use Rattle.std.proofs.Common.{get_or, set, ap, ◌∙◌, arith}
+use Rattle.std.proofs.Common.{set, ap, ◌∙◌, arith}
 use Rattle.verdict.specs.Digits.{level_of}
 use Rattle.verdict.proofs.Digit.{filled_more, filled_all}
 use Rattle.verdict.proofs.digits.read_levels.Goals as goal
