@@ -1,6 +1,6 @@
 //! The call: which command, on which file, with which options.
 
-ghost use Rattle.std.specs.Prelude.{◌≡◌, ◌<◌, IfOk};
+ghost use Rattle.std.specs.Prelude.{◌≡◌};
 ghost use Rattle.bench.specs.Calls.{call_of, verb_of, option_of};
 
 use std::alloc::{AllocError, Global};
@@ -8,8 +8,10 @@ use std::alloc::{AllocError, Global};
 pub const USAGE: &str =
     "usage: bench show FILE                                  show a listing node by node, or say why it is refused\n       bench clear FILE --levels TABLE [OPTION VALUE]..  say whether the routine is cleared, or where it leaks\n       bench help                                       show this text\n\nFILE is a listing of at most 65536 bytes; - is standard input.\n\nOptions of clear:\n  --levels TABLE     the level of each scalar, then of each array\n  --order ORDER      two (default): a table is a row of digits, 0 public and 1 secret\n                     owners: a table is a row of codes with commas, each the sum of 2 to the power of\n                     the number of each owner, 0 to 15, who may know\n  --listener LEVEL   the level of the listener; by default the least, public or nobody's\n  --model MODEL      what the listener hears: pc, baseline (default), line16 or line8;\n                     with tv+ in front also how long the operands of a division are\n\nexamples: bench show examples/lookup.lst\n          bench clear examples/lookup.lst --levels 100 --model line16\n          bench clear examples/lookup.lst --order owners --levels 9,1,1 --listener 1\n\nThe status is 0; it is 1 where the listing is refused or leaks, or something went wrong.\n";
 
+// The crate `command` reads the words of a program that has two more commands, run and twin. Until bench has them, its words, faults and help are its own.
+
 /// What the first word asks for.
-#[derive(Clone, Copy)]
+#[derive(Clone, Copy, Debug, PartialEq, Eq)]
 pub enum Verb {
     Help,
     Show,
@@ -17,7 +19,7 @@ pub enum Verb {
 }
 
 /// An option, which takes the word after it.
-#[derive(Clone, Copy)]
+#[derive(Clone, Copy, Debug, PartialEq, Eq)]
 pub enum OptionName {
     Levels,
     Order,
@@ -25,11 +27,8 @@ pub enum OptionName {
     Model,
 }
 
-/// How many options there are.
-const OPTIONS: usize = 4;
-
 /// What is wrong with a call.
-#[derive(Clone, Copy)]
+#[derive(Clone, Copy, Debug, PartialEq, Eq)]
 pub enum Misuse {
     NoCommand,
     UnknownCommand,
@@ -38,14 +37,16 @@ pub enum Misuse {
     SecondFile,
 }
 
-/// What is wrong with the options of a call: at which word.
-#[derive(Clone, Copy)]
-pub enum OptionFault {
-    Unknown { place: usize },
-    Repeated { place: usize },
-    NoValue { place: usize },
+// A call without options is told by how many words it has, one with options by the word that is wrong.
+
+/// What is wrong with the options of a call, and the word where it is.
+#[derive(Clone, Copy, Debug, PartialEq, Eq)]
+pub enum OptionFault<'a> {
+    Unknown { word: &'a str },
+    Repeated { word: &'a str },
+    NoValue { word: &'a str },
     NoFile,
-    SecondFile { place: usize },
+    SecondFile { word: &'a str },
 }
 
 /// The verb that the word names.
@@ -80,122 +81,92 @@ pub fn call_of(count: usize, verb: Option<Verb>) -> Result<Verb, Misuse>
     if count == 0 {
         return Err(Misuse::NoCommand);
     }
-    match verb {
-        None => Err(Misuse::UnknownCommand),
-        Some(Verb::Help) => {
-            if count > 1 {
-                return Err(Misuse::WordAfterHelp);
-            }
-            Ok(Verb::Help)
-        }
-        Some(Verb::Show) => {
-            if count < 2 {
-                return Err(Misuse::NoFile);
-            }
-            if count > 2 {
-                return Err(Misuse::SecondFile);
-            }
-            Ok(Verb::Show)
-        }
-        Some(Verb::Clear) => Ok(Verb::Clear),
+    match verb.ok_or(Misuse::UnknownCommand)? {
+        Verb::Help if count > 1 => Err(Misuse::WordAfterHelp),
+        Verb::Show if count < 2 => Err(Misuse::NoFile),
+        Verb::Show if count > 2 => Err(Misuse::SecondFile),
+        verb => Ok(verb),
     }
 }
 
 /// The word at that place, or nothing.
 pub fn word_at(words: &[String], place: usize) -> &str {
-    match words.get(place) {
-        Some(word) => word.as_str(),
-        None => "",
-    }
-}
-
-/// The words of a call with options: the file, and the value of each option that is given.
-#[derive(Clone, Copy)]
-pub struct Options {
-    file: Option<usize>,
-    values: [Option<usize>; OPTIONS],
-}
-
-/// Where the option's value is kept.
-fn slot(option: OptionName) -> usize
-    ensures { result < 4 }
-{
-    match option {
-        OptionName::Levels => 0,
-        OptionName::Order => 1,
-        OptionName::Listener => 2,
-        OptionName::Model => 3,
-    }
+    words.get(place).map_or("", String::as_str)
 }
 
 /// Whether the word begins as an option does.
 fn is_dashed(word: &str) -> bool {
-    match word.as_bytes() {
-        [b'-', b'-', ..] => true,
-        _ => false,
-    }
+    word.starts_with("--")
 }
 
-impl Options {
+/// The words of a call with options: the file, and the value of each option that is given.
+#[derive(Clone, Copy, Debug, PartialEq, Eq)]
+pub struct Options<'a> {
+    pub file: &'a str,
+    pub levels: Option<&'a str>,
+    pub order: Option<&'a str>,
+    pub listener: Option<&'a str>,
+    pub model: Option<&'a str>,
+}
+
+impl<'a> Options<'a> {
     /// Reads the words after the verb.
-    pub fn of(words: &[String]) -> Result<Options, OptionFault> {
+    pub fn of(words: &'a [String]) -> Result<Options<'a>, OptionFault<'a>> {
         let mut options = Options {
-            file: None,
-            values: [None; OPTIONS],
+            file: "",
+            levels: None,
+            order: None,
+            listener: None,
+            model: None,
         };
-        let mut place = 1;
-        while place < words.len() {
-            let word = word_at(words, place);
-            place = options.take(word, place, words.len())?;
+        let mut file = None;
+        let mut rest = words.get(1..).unwrap_or(&[]);
+        while let Some((word, after)) = rest.split_first() {
+            let word = word.as_str();
+            rest = after;
+            if let Some(option) = option_of(word) {
+                let (value, after) = rest.split_first().ok_or(OptionFault::NoValue { word })?;
+                options.give(option, value.as_str(), word)?;
+                rest = after;
+            } else {
+                take_file(&mut file, word)?;
+            }
         }
-        if options.file.is_none() {
-            return Err(OptionFault::NoFile);
-        }
+        options.file = file.ok_or(OptionFault::NoFile)?;
         Ok(options)
     }
 
-    /// Takes the word, and its value if it is an option; the place of the next word.
-    fn take(&mut self, word: &str, place: usize, count: usize) -> Result<usize, OptionFault>
-        requires { place < count }
-        ensures { IfOk result (λ next. place < next) }
-    {
-        match option_of(word) {
-            Some(option) => {
-                if place + 1 >= count {
-                    return Err(OptionFault::NoValue { place });
-                }
-                let slot = slot(option);
-                if self.values[slot].is_some() {
-                    return Err(OptionFault::Repeated { place });
-                }
-                self.values[slot] = Some(place + 1);
-                Ok(place + 2)
-            }
-            None => {
-                if is_dashed(word) {
-                    return Err(OptionFault::Unknown { place });
-                }
-                if self.file.is_some() {
-                    return Err(OptionFault::SecondFile { place });
-                }
-                self.file = Some(place);
-                Ok(place + 1)
-            }
+    /// Gives the option, which is this word, its value.
+    fn give(
+        &mut self,
+        option: OptionName,
+        value: &'a str,
+        word: &'a str,
+    ) -> Result<(), OptionFault<'a>> {
+        let place = match option {
+            OptionName::Levels => &mut self.levels,
+            OptionName::Order => &mut self.order,
+            OptionName::Listener => &mut self.listener,
+            OptionName::Model => &mut self.model,
+        };
+        if place.is_some() {
+            return Err(OptionFault::Repeated { word });
         }
+        *place = Some(value);
+        Ok(())
     }
+}
 
-    /// The file.
-    pub fn file<'a>(&self, words: &'a [String]) -> &'a str {
-        word_at(words, self.file.unwrap_or(0))
+/// Takes the word as the file, if there is none yet.
+fn take_file<'a>(file: &mut Option<&'a str>, word: &'a str) -> Result<(), OptionFault<'a>> {
+    if is_dashed(word) {
+        return Err(OptionFault::Unknown { word });
     }
-
-    /// The value of the option, if it is given.
-    pub fn value<'a>(&self, words: &'a [String], option: OptionName) -> Option<&'a str> {
-        match self.values[slot(option)] {
-            Some(place) => Some(word_at(words, place)),
-            None => None,
-        }
+    if file.is_some() {
+        return Err(OptionFault::SecondFile { word });
     }
+    *file = Some(word);
+    Ok(())
 }
 
 /// What is wrong with the call, in words.
@@ -212,29 +183,18 @@ pub fn misuse_text(heap: Global, misuse: Misuse, words: &[String]) -> Result<Str
     }
 }
 
-/// What is wrong with the options, in words.
+/// What is wrong with the options of the verb, in words.
 pub fn option_fault_text(
     heap: Global,
-    fault: OptionFault,
-    words: &[String],
+    fault: OptionFault<'_>,
+    verb: &str,
 ) -> Result<String, AllocError> {
-    let verb = word_at(words, 0);
     match fault {
-        OptionFault::Unknown { place } => {
-            let word = word_at(words, place);
-            format!(in heap; "{verb} has no option '{word}'")
-        }
-        OptionFault::Repeated { place } => {
-            let word = word_at(words, place);
-            format!(in heap; "{word} is given twice")
-        }
-        OptionFault::NoValue { place } => {
-            let word = word_at(words, place);
-            format!(in heap; "{word} wants a value")
-        }
+        OptionFault::Unknown { word } => format!(in heap; "{verb} has no option '{word}'"),
+        OptionFault::Repeated { word } => format!(in heap; "{word} is given twice"),
+        OptionFault::NoValue { word } => format!(in heap; "{word} wants a value"),
         OptionFault::NoFile => format!(in heap; "{verb} wants a file"),
-        OptionFault::SecondFile { place } => {
-            let word = word_at(words, place);
+        OptionFault::SecondFile { word } => {
             format!(in heap; "{verb} takes one file, and not '{word}' too")
         }
     }

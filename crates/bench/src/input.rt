@@ -34,19 +34,15 @@ fn shown_name(name: &str) -> &str {
 pub fn read(rt: &HostRuntime, name: &str) -> Result<Vec<u8>, Failure> {
     let heap = rt.alloc();
     let shown = shown_name(name);
-    match read_named(rt, name) {
-        Ok(bytes) => {
-            if bytes.len() <= MOST_BYTES {
-                return Ok(bytes);
-            }
-            let text = format!(in heap;
-                "{shown} has more than {MOST_BYTES} bytes, and no listing has so many"
-            )?;
-            Err(Failure::Input { text })
-        }
-        Err(error) => {
-            let text = format!(in heap; "cannot read {shown}: {error}")?;
-            Err(Failure::Input { text })
-        }
+    let bytes = read_named(rt, name).try_map_err(|error| {
+        let text = format!(in heap; "cannot read {shown}: {error}")?;
+        Ok(Failure::Input { text })
+    })?;
+    if bytes.len() <= MOST_BYTES {
+        return Ok(bytes);
     }
+    let text = format!(in heap;
+        "{shown} has more than {MOST_BYTES} bytes, and no listing has so many"
+    )?;
+    Err(Failure::Input { text })
 }

@@ -14,13 +14,11 @@ use std::process::ExitCode;
 
 /// The words after the program's name.
 fn words_of(rt: &HostRuntime) -> Result<Vec<String>, Failure> {
-    match env::args(rt) {
-        Ok(words) => Ok(words.skip(1).collect(rt.alloc())?),
-        Err(error) => {
-            let text = format!(in rt.alloc(); "cannot read the call: {error}")?;
-            Err(Failure::Input { text })
-        }
-    }
+    let words = env::args(rt).try_map_err(|error| {
+        let text = format!(in rt.alloc(); "cannot read the call: {error}")?;
+        Ok(Failure::Input { text })
+    })?;
+    Ok(words.skip(1).collect(rt.alloc())?)
 }
 
 /// Does what the call asks.

@@ -2,19 +2,20 @@
 
 use crate::failure::Failure;
 use crate::input::read;
-use report::sheet::{Sheet, show};
+use report::sheet::{NotShown, show};
 
 /// Shows the listing in the file.
 pub fn run(rt: &HostRuntime, file: &str) -> Result<(), Failure> {
     let bytes = read(rt, file)?;
-    match show(rt.alloc(), bytes.as_slice())? {
-        Sheet::Loaded { text } => {
+    match show(rt.alloc(), bytes.as_slice()) {
+        Ok(text) => {
             rt.print(text)?;
             Ok(())
         }
-        Sheet::Refused { text } => {
+        Err(NotShown::Refused { text }) => {
             rt.print(text)?;
             Err(Failure::Refused)
         }
+        Err(NotShown::NoMemory) => Err(Failure::Stuck),
     }
 }

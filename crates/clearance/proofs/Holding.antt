@@ -1,5 +1,6 @@
 -- The operands of a node, one after the other, each held to its bound.
-use Rattle.std.proofs.Common.{◌≡◌, ℕ, ◌<◌, ◌≤◌, Bool, true, false, ◌⊎◌, List, length, Some, None, Option, sym, refl, ◌∙◌, subst, subst₂, inl, inr, arith}
+use Rattle.std.proofs.Common.{◌≡◌, ℕ, ◌<◌, ◌≤◌, Bool, true, false, ◌⊎◌, List, length, Some, None, Option, sym, refl, ap, ◌∙◌, subst, subst₂, inl, inr, arith}
+use Rattle.std.specs.Option.{option_or}
 use Rattle.std.proofs.lemmas.Bool.{cases_Bool, both_ways}
 use Rattle.levels.specs.declared.name_set.NameSet.{NameSet}
 use Rattle.rules.specs.declared.Operator.{Operator}
@@ -17,19 +18,24 @@ use Rattle.rules.specs.Clearance.Held.{if_condition, while_condition, left_opera
 use Rattle.rules.proofs.Reaching.{reaching_name}
 use Rattle.reach.proofs.Loaded.{formed_of, arrays_of, limits_of}
 use Rattle.rules.proofs.Leaks.{if_is, while_is, operate_is, read_is, write_is}
+use Rattle.clearance.specs.declared.leak.Bound.{Bound}
+use Rattle.clearance.specs.declared.leak.Bound.TheVariants as by
 use Rattle.clearance.specs.declared.leak.LeakSite.{LeakSite}
+use Rattle.clearance.specs.Bounds.{bound_number}
 use Rattle.reach.specs.declared.table.ReachTable.{ReachTable}
 use Rattle.reach.specs.Table.{cell, TellsReach}
 use Rattle.levels.specs.Tables.{start_level, FlowTo}
 use Rattle.clearance.specs.Scenes.{scene, setting, Fitting}
-use Rattle.clearance.specs.Stops.{OperandAnswer, Stop, NodeAnswer, or_else}
+use Rattle.clearance.specs.declared.search.Search.{Search}
+use Rattle.clearance.specs.Searches.{searched, Prepared}
+use Rattle.clearance.specs.Stops.{OperandAnswer, Stop, NodeAnswer}
 
 module _ {L : Type 0} (c : Setting L) (p : ℕ) (n : Node) where
   -- Scalar k, which is operand w where `held` says so, held to bound b.
   pub record HeldSite (w b k : ℕ) (held : Bool) (s : LeakSite) : Type 0 where
     pub node : s.node ≡ p
     pub operand : s.operand ≡ w
-    pub bound_is : s.bound ≡ b
+    pub bound_is : bound_number s.bound ≡ b
     pub held_to : held ≡ true
     pub reaches : Reaches c.labelled.routine s.name p k
     pub stopped : c.labelled.order.flows (c.labelled.level s.name) (bound c n b) ≡ false
@@ -42,13 +48,13 @@ module _ {L : Type 0} (c : Setting L) (p : ℕ) (n : Node) where
   -- The answer for some of a node's operands and bounds.
   pub record PartSite (Q : ℕ → ℕ → Type 0) (s : LeakSite) : Type 0 where
     pub node : s.node ≡ p
-    pub inside : Q s.operand s.bound
-    pub stop : Stop c p n s.operand s.bound s.name
+    pub inside : Q s.operand (bound_number s.bound)
+    pub stop : Stop c p n s.operand (bound_number s.bound) s.name
     pub lowest :
         (w b m : ℕ)
         → Q w b
         → Stop c p n w b m
-        → (s.operand < w) ⊎ ((s.operand ≡ w) × ((s.bound < b) ⊎ ((s.bound ≡ b) × (s.name ≤ m))))
+        → (s.operand < w) ⊎ ((s.operand ≡ w) × ((bound_number s.bound < b) ⊎ ((bound_number s.bound ≡ b) × (s.name ≤ m))))
 
   abbrev pub Part : (ℕ → ℕ → Type 0) → Option LeakSite → Type 0
   Part Q None = (w b m : ℕ) → Q w b → Stop c p n w b m → ⊥
@@ -102,7 +108,7 @@ module _ {L : Type 0} (c : Setting L) (p : ℕ) (n : Node) where
       → ((w b w' b' : ℕ) → Q w b → Q' w' b' → (w < w') ⊎ ((w ≡ w') × (b < b')))
       → Part Q r
       → Part Q' r'
-      → Part (λ w b. Q w b ⊎ Q' w b) (or_else r r')
+      → Part (λ w b. Q w b ⊎ Q' w b) (option_or r r')
   then_also Q Q' None None before x y = λ w b m q s. elim q [ inl a ↦ x w b m a s | inr a ↦ y w b m a s ]
   then_also Q Q' None (Some s) before x y =
       record {
@@ -120,7 +126,7 @@ module _ {L : Type 0} (c : Setting L) (p : ℕ) (n : Node) where
             λ w b m q t.
             elim q [
               | inl a ↦ x.lowest w b m a t
-              | inr a ↦ elim (before s.operand s.bound w b x.inside a) [ inl l ↦ inl l | inr e ↦ inr (e.0, inl e.1) ]
+              | inr a ↦ elim (before s.operand (bound_number s.bound) w b x.inside a) [ inl l ↦ inl l | inr e ↦ inr (e.0, inl e.1) ]
             ];
       }
 
@@ -185,9 +191,9 @@ module _ {L : Type 0} (c : Setting L) (p : ℕ) where
       → right ≡ c.model.watches_operand op Right
       → HeldAnswer c p (Operate d op x y) 3 0 x left r
       → HeldAnswer c p (Operate d op x y) 4 0 y right r'
-      → NodeAnswer c p (Operate d op x y) (or_else r r')
+      → NodeAnswer c p (Operate d op x y) (option_or r r')
   operate_answer d x y op left right r r' e f h h' =
-      whole_node c p (Operate d op x y) (λ w b. ((w ≡ 3) × (b ≡ 0)) ⊎ ((w ≡ 4) × (b ≡ 0))) (or_else r r')
+      whole_node c p (Operate d op x y) (λ w b. ((w ≡ 3) × (b ≡ 0)) ⊎ ((w ≡ 4) × (b ≡ 0))) (option_or r r')
       (λ w b k z. elim (operate_is z) [ inl q ↦ inl (q.0, q.1) | inr q ↦ inr (q.0, q.1) ])
       (then_also c p (Operate d op x y) (λ w b. (w ≡ 3) × (b ≡ 0)) (λ w b. (w ≡ 4) × (b ≡ 0)) r r' (λ w b w' b' q q'. inl (omega arith))
       (slot c p (Operate d op x y) 3 0 x left r (λ k z. let q = left_only z in (q.0, e ∙ q.1)) (λ z. left_operand (sym e ∙ z)) h)
@@ -199,11 +205,11 @@ module _ {L : Type 0} (c : Setting L) (p : ℕ) where
       → HeldAnswer c p (Write t i v) 2 0 i held r
       → HeldAnswer c p (Write t i v) 2 1 i true r'
       → HeldAnswer c p (Write t i v) 3 1 v true r''
-      → NodeAnswer c p (Write t i v) (or_else r (or_else r' r''))
+      → NodeAnswer c p (Write t i v) (option_or r (option_or r' r''))
   write_answer t i v held r r' r'' e h h' h'' =
-      whole_node c p (Write t i v) (λ w b. ((w ≡ 2) × (b ≡ 0)) ⊎ (((w ≡ 2) × (b ≡ 1)) ⊎ ((w ≡ 3) × (b ≡ 1)))) (or_else r (or_else r' r''))
+      whole_node c p (Write t i v) (λ w b. ((w ≡ 2) × (b ≡ 0)) ⊎ (((w ≡ 2) × (b ≡ 1)) ⊎ ((w ≡ 3) × (b ≡ 1)))) (option_or r (option_or r' r''))
       (λ w b k z. elim (write_is z) [ inl q ↦ inl (q.0, q.1) | inr (inl q) ↦ inr (inl (q.0, q.1)) | inr (inr q) ↦ inr (inr (q.0, q.1)) ])
-      (then_also c p (Write t i v) (λ w b. (w ≡ 2) × (b ≡ 0)) (λ w b. ((w ≡ 2) × (b ≡ 1)) ⊎ ((w ≡ 3) × (b ≡ 1))) r (or_else r' r'')
+      (then_also c p (Write t i v) (λ w b. (w ≡ 2) × (b ≡ 0)) (λ w b. ((w ≡ 2) × (b ≡ 1)) ⊎ ((w ≡ 3) × (b ≡ 1))) r (option_or r' r'')
       (λ w b w' b' q q'. elim q' [ inl a ↦ inr (omega arith) | inr a ↦ inl (omega arith) ])
       (slot c p (Write t i v) 2 0 i held r (λ k z. let q = heard_only z in (q.0, e ∙ q.1)) (λ z. write_index (sym e ∙ z)) h)
       (then_also c p (Write t i v) (λ w b. (w ≡ 2) × (b ≡ 1)) (λ w b. (w ≡ 3) × (b ≡ 1)) r' r'' (λ w b w' b' q q'. inl (omega arith))
@@ -225,11 +231,11 @@ module _
       (omega (arith, a, arrays_of x, few.scalars, few.arrays), omega (arith, a, arrays_of x, fit))
 
   pub held_of :
-      (p w b k : ℕ) (n : Node) (y : L) (flow : NameSet) (held : Bool) (r : Option LeakSite)
-      → bound C n b ≡ y
+      (p w : ℕ) (b : Bound) (k : ℕ) (n : Node) (y : L) (flow : NameSet) (held : Bool) (r : Option LeakSite)
+      → bound C n (bound_number b) ≡ y
       → FlowTo o levels y flow
       → OperandAnswer (cell t p k) flow held p w b r
-      → HeldAnswer C p n w b k held r
+      → HeldAnswer C p n w (bound_number b) k held r
   held_of p w b k n y flow held None e F none =
       λ h m reach. subst (λ z. o.flows (start_level o levels m) z ≡ true) (sym e) ((F m).0 (none h m ((T m p k).1 reach))).2
   held_of p w b k n y flow held (Some s) e F N =
@@ -237,7 +243,7 @@ module _
       record {
         node = N.node;
         operand = N.operand;
-        bound_is = N.bound;
+        bound_is = ap bound_number N.bound;
         held_to = N.held_to;
         reaches = reach;
         stopped =
@@ -251,6 +257,25 @@ module _
             N.lowest m ((T m p k).1 h)
             (λ g. both_ways (o.flows (start_level o levels m) y) (subst (λ z. o.flows (start_level o levels m) z ≡ false) e f) ((F m).0 g).2);
       }
+
+-- The operands of a search.
+module _ {L M : Type 0} (o : Order L) (w : M → Leakage) (s : Search L M) (R : Prepared o w s) (p : ℕ) (n : Node) where
+  pub heard_held :
+      (v k : ℕ) (held : Bool) (r : Option LeakSite)
+      → bound (setting (searched o w s)) n 0 ≡ s.listener
+      → OperandAnswer (cell s.table.now p k) s.heard held p v by.Listener r
+      → HeldAnswer (setting (searched o w s)) p n v 0 k held r
+  heard_held v k held r e a =
+      held_of o (w s.model) s.routine.now s.levels.now s.listener R.fits s.table.now R.reach p v by.Listener k n s.listener s.heard held r e R.flow a
+
+  pub stored_held :
+      (v k : ℕ) (y : L) (stored : NameSet) (r : Option LeakSite)
+      → bound (setting (searched o w s)) n 1 ≡ y
+      → FlowTo o s.levels.now y stored
+      → OperandAnswer (cell s.table.now p k) stored true p v by.Array r
+      → HeldAnswer (setting (searched o w s)) p n v 1 k true r
+  stored_held v k y stored r e F a =
+      held_of o (w s.model) s.routine.now s.levels.now s.listener R.fits s.table.now R.reach p v by.Array k n y stored true r e F a
 
 -- The nodes that hold no operand to a bound.
 pub no_answer :

@@ -1,5 +1,5 @@
 -- From the reach table and the search to what an examination tells.
-use Rattle.std.proofs.Common.{◌≡◌, ℕ, zero, suc, ◌+◌, ◌<◌, ◌≤◌, Bool, true, false, List, length, Some, None, Option, sym, refl, ap, ◌∙◌, inl, inr, arith}
+use Rattle.std.proofs.Common.{◌≡◌, ℕ, zero, suc, ◌+◌, ◌<◌, ◌≤◌, Bool, true, false, List, length, Some, None, Ok, Err, Option, sym, refl, ap, ◌∙◌, inl, inr, arith}
 use Rattle.std.proofs.lemmas.Bool.{cases_eq, both_ways, eqb-true, eq-eqb}
 use Rattle.levels.specs.declared.name_set.NameSet.{NameSet}
 use Rattle.levels.specs.Names.{bit, Has, has}
@@ -19,10 +19,8 @@ use Rattle.rules.specs.Clearance.{Setting, Cleared, NoViolation, Open, joined, l
 use Rattle.rules.proofs.Reaching.{reaching_name}
 use Rattle.rules.proofs.Tables.{least_typed}
 use Rattle.clearance.specs.declared.leak.LeakSite.{LeakSite}
-use Rattle.clearance.specs.declared.outcome.Outcome.{Outcome}
-use Rattle.clearance.specs.declared.outcome.Outcome.TheVariants as outcome
 use Rattle.clearance.specs.declared.record.Examination.{Examination}
-use Rattle.clearance.specs.Outcomes.{is_granted, by_leak}
+use Rattle.clearance.specs.Outcomes.{Outcome, is_granted, by_leak}
 use Rattle.clearance.specs.Opens.{opens_of}
 use Rattle.clearance.specs.Scenes.{Scene, scene, setting, Fitting}
 use Rattle.clearance.specs.Stops.{LeakAnswer}
@@ -137,9 +135,8 @@ least_level o r level t bits T E p k hp hk =
 -- What a granted examination has earned: the table fits, and some typing table meets the rules.
 module _ {L M : Type 0} (x : Scene L) (r : Examination M) (E : Examined x r) where
   typed : (out : Outcome) → is_granted out ≡ true → RightOutcome (setting x) out → Cleared (setting x)
-  typed outcome.Granted e t = t
-  typed outcome.TableLength e t = absurd t
-  typed (outcome.Leak s) e t = absurd (both_ways false refl e)
+  typed (Ok u) e t = t
+  typed (Err f) e t = absurd (both_ways false refl e)
 
   pub earned : is_granted r.outcome ≡ true → Fitting x × Cleared (setting x)
   earned h =

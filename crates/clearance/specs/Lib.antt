@@ -1,4 +1,6 @@
+pub mod Bounds
 pub mod Scenes
+pub mod Searches
 pub mod Outcomes
 pub mod Opens
 pub mod Examinations

@@ -5,10 +5,12 @@ use Rattle.levels.specs.Names.{Has}
 use Rattle.rules.specs.declared.Node.{Node}
 use Rattle.rules.specs.Reach.{Reaches}
 use Rattle.rules.specs.Clearance.{Setting, Held, bound, NoViolation, Leak}
+use Rattle.clearance.specs.declared.leak.Bound.{Bound}
 use Rattle.clearance.specs.declared.leak.LeakSite.{LeakSite}
+use Rattle.clearance.specs.Bounds.{bound_number}
 
 -- One operand held to one bound: `names` reach it, and `flow` are those that flow to the bound.
-pub record Named (names flow : NameSet) (held : Bool) (p w b : ℕ) (s : LeakSite) : Type 0 where
+pub record Named (names flow : NameSet) (held : Bool) (p w : ℕ) (b : Bound) (s : LeakSite) : Type 0 where
   pub node : s.node ≡ p
   pub operand : s.operand ≡ w
   pub bound : s.bound ≡ b
@@ -17,7 +19,7 @@ pub record Named (names flow : NameSet) (held : Bool) (p w b : ℕ) (s : LeakSit
   pub stopped : Has flow s.name → ⊥
   pub lowest : (m : ℕ) → Has names m → (Has flow m → ⊥) → s.name ≤ m
 
-abbrev pub OperandAnswer : (names flow : NameSet) (held : Bool) (p w b : ℕ) → Option LeakSite → Type 0
+abbrev pub OperandAnswer : (names flow : NameSet) (held : Bool) (p w : ℕ) (b : Bound) → Option LeakSite → Type 0
 OperandAnswer names flow held p w b None = held ≡ true → (m : ℕ) → Has names m → Has flow m
 OperandAnswer names flow held p w b (Some s) = Named names flow held p w b s
 
@@ -31,21 +33,17 @@ module _ {L : Type 0} (c : Setting L) (p : ℕ) (n : Node) where
 
   pub record LowestStop (s : LeakSite) : Type 0 where
     pub node : s.node ≡ p
-    pub stop : Stop s.operand s.bound s.name
+    pub stop : Stop s.operand (bound_number s.bound) s.name
     pub lowest :
         (w b m : ℕ)
         → Stop w b m
-        → (s.operand < w) ⊎ ((s.operand ≡ w) × ((s.bound < b) ⊎ ((s.bound ≡ b) × (s.name ≤ m))))
+        → (s.operand < w) ⊎ ((s.operand ≡ w) × ((bound_number s.bound < b) ⊎ ((bound_number s.bound ≡ b) × (s.name ≤ m))))
 
   abbrev pub NodeAnswer : Option LeakSite → Type 0
   NodeAnswer None = (w b m : ℕ) → Stop w b m → ⊥
   NodeAnswer (Some s) = LowestStop s
 
-abbrev pub or_else : Option LeakSite → Option LeakSite → Option LeakSite
-or_else (Some s) y = Some s
-or_else None y = y
-
 -- No violation, or the leak that is named.
 abbrev pub LeakAnswer : {L : Type 0} → Setting L → Option LeakSite → Type 0
 LeakAnswer c None = NoViolation c
-LeakAnswer c (Some s) = Leak c s.node s.operand s.bound s.name
+LeakAnswer c (Some s) = Leak c s.node s.operand (bound_number s.bound) s.name

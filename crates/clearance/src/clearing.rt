@@ -4,7 +4,7 @@ ghost use Rattle.std.specs.Prelude.{◌≡◌, true, Some, MatchResult};
 ghost use Rattle.clearance.specs.Outcomes.{is_granted, fault_of};
 
 use crate::grant::Clearance;
-use crate::outcome::{ClearFault, Outcome};
+use crate::outcome::ClearFault;
 use crate::record::Examination;
 use leakage::LeakageModel;
 
@@ -12,11 +12,8 @@ use leakage::LeakageModel;
 pub fn clear<M: LeakageModel>(exam: &Examination<M>) -> Result<Clearance<'_, M>, ClearFault>
     ensures { MatchResult result (λ c. (c.exam.now ≡ exam.now) × (is_granted exam.now.outcome ≡ true)) (λ f. fault_of exam.now.outcome ≡ Some f) }
 {
-    match exam.outcome() {
-        Outcome::Granted => Ok(Clearance { exam }),
-        Outcome::TableLength => Err(ClearFault::TableLength),
-        Outcome::Leak(site) => Err(ClearFault::Leak(site)),
-    }
+    exam.outcome()?;
+    Ok(Clearance { exam })
 }
 
 impl<'a, M: LeakageModel> Clearance<'a, M> {

@@ -4,13 +4,15 @@ ghost use Rattle.std.specs.Prelude.{◌≡◌};
 ghost use Rattle.clearance.specs.Scenes.{scene};
 ghost use Rattle.clearance.specs.Examinations.{Examined};
 
-use crate::outcome::{Outcome, outcome_of};
+use crate::outcome::{ClearFault, outcome_of};
 use crate::record::Examination;
-use crate::search::first_leak;
+use crate::search::Search;
 use leakage::LeakageModel;
 use levels::{Level, flowing};
 use listing::Routine;
 use reach::{OpenNames, counts_of, open_names, reach};
+
+// The table and the listener are two things that a caller has apart, and only this call and the search take both.
 
 /// Examines the routine under the model, with a table of start levels and the listener's level. It cannot refuse.
 pub fn examine<L: Level, M: LeakageModel>(
@@ -28,17 +30,25 @@ pub fn examine<L: Level, M: LeakageModel>(
             routine,
             model,
             opens: OpenNames::none(),
-            outcome: Outcome::TableLength,
+            outcome: Err(ClearFault::TableLength),
         };
     }
     let table = reach(&routine);
     let heard = flowing(levels, listener);
     let opens = open_names(&routine, &table, heard);
-    let leak = first_leak(&routine, model, levels, listener, &table, heard);
+    let search = Search {
+        routine: &routine,
+        model,
+        levels,
+        listener,
+        table: &table,
+        heard,
+    };
+    let outcome = outcome_of(search.first_leak());
     Examination {
         routine,
         model,
         opens,
-        outcome: outcome_of(leak),
+        outcome,
     }
 }

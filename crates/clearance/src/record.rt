@@ -3,7 +3,7 @@
 ghost use Rattle.std.specs.Prelude.{◌≡◌};
 ghost use Rattle.clearance.specs.Opens.{opens_of};
 
-use crate::outcome::Outcome;
+use crate::outcome::ClearFault;
 use leakage::LeakageModel;
 use listing::Routine;
 use reach::OpenNames;
@@ -14,12 +14,12 @@ pub struct Examination<M: LeakageModel> {
     pub(crate) routine: Routine,
     pub(crate) model: M,
     pub(crate) opens: OpenNames,
-    pub(crate) outcome: Outcome,
+    pub(crate) outcome: Result<(), ClearFault>,
 }
 
 impl<M: LeakageModel> Examination<M> {
-    /// What came of it.
-    pub fn outcome(&self) -> Outcome
+    /// What came of it: nothing leaks, or the fault for which there is no clearance.
+    pub fn outcome(&self) -> Result<(), ClearFault>
         ensures { result ≡ self.now.outcome }
     {
         self.outcome

@@ -1,116 +1,116 @@
 //! The search for the leak over all nodes.
 
-ghost use Rattle.std.specs.Prelude.{◌<◌};
+ghost use Rattle.std.specs.Prelude.{◌<◌, true};
 ghost use Rattle.rules.specs.declared.Node.TheVariants.{Write};
 ghost use Rattle.rules.specs.Routine.{node, OperandsExist};
 ghost use Rattle.listing.specs.Forms.{routine_of};
-ghost use Rattle.clearance.specs.Scenes.{scene, setting, Ready};
-ghost use Rattle.clearance.specs.Stops.{NodeAnswer, LeakAnswer};
+ghost use Rattle.reach.specs.Table.{cell};
+ghost use Rattle.clearance.specs.Scenes.{setting};
+ghost use Rattle.clearance.specs.Searches.{searched, Prepared};
+ghost use Rattle.clearance.specs.Stops.{OperandAnswer, NodeAnswer, LeakAnswer};
 
-use crate::leak::{LeakSite, first_of, operand_leak};
+use crate::leak::{Bound, LeakSite, operand_leak};
 use leakage::LeakageModel;
 use levels::{Level, NameSet, flowing};
 use listing::Routine;
 use reach::{ReachTable, counts_of, node_at, region_at};
 use rules::{Node, Side};
 
-// At a write: the index held to the listener if it is watched, then the index and the value held to the array's level.
-fn write_leak<L: Level, M: LeakageModel>(
-    routine: &Routine,
-    model: M,
-    levels: &[L],
-    listener: L,
-    table: &ReachTable,
-    heard: NameSet,
-    point: usize,
-    array: u32,
-    index: u32,
-    value: u32,
-) -> Option<LeakSite>
-    requires { (Ready (scene L.order (M.leakage model) routine.now.listing levels.now listener) table.now heard) × ((point < 128) × (OperandsExist routine.now.listing.counts.scalars routine.now.listing.counts.arrays (Write array index value))) }
-    ensures { NodeAnswer (setting (scene L.order (M.leakage model) routine.now.listing levels.now listener)) point (Write array index value) result }
-{
-    let counts = counts_of(routine);
-    let stored = flowing(levels, levels[(counts.scalars + array) as usize]);
-    let watched = model.watches_index(region_at(routine, array as usize));
-    let by_index = table.names(point, index as usize);
-    let by_value = table.names(point, value as usize);
-    let first = operand_leak(by_index, heard, watched, point, 2, 0);
-    let second = operand_leak(by_index, stored, true, point, 2, 1);
-    let third = operand_leak(by_value, stored, true, point, 3, 1);
-    first_of(first, first_of(second, third))
+// What is searched: the scene, what reaches each scalar at each point, and the names that flow to the listener.
+// That it is prepared is no ghost field, since more than one derivation may show that a name reaches a scalar.
+#[derive(Drop)]
+pub(crate) struct Search<'a, L: Level, M: LeakageModel> {
+    pub(crate) routine: &'a Routine,
+    pub(crate) model: M,
+    pub(crate) levels: &'a [L],
+    pub(crate) listener: L,
+    pub(crate) table: &'a ReachTable,
+    pub(crate) heard: NameSet,
 }
 
-// The leak at one node: the lowest operand, then bound, then start name.
-fn node_leak<L: Level, M: LeakageModel>(
-    routine: &Routine,
-    model: M,
-    levels: &[L],
-    listener: L,
-    table: &ReachTable,
-    heard: NameSet,
-    point: usize,
-) -> Option<LeakSite>
-    requires { (Ready (scene L.order (M.leakage model) routine.now.listing levels.now listener) table.now heard) × (point < routine.now.listing.counts.nodes) }
-    ensures { NodeAnswer (setting (scene L.order (M.leakage model) routine.now.listing levels.now listener)) point (node (routine_of routine.now.listing) point) result }
-{
-    let counts = counts_of(routine);
-    match node_at(routine, point) {
-        Node::If { condition, .. } => {
-            let by_condition = table.names(point, condition as usize);
-            operand_leak(by_condition, heard, true, point, 1, 0)
-        }
-        Node::While { condition, .. } => {
-            let by_condition = table.names(point, condition as usize);
-            operand_leak(by_condition, heard, true, point, 1, 0)
-        }
-        Node::Operate {
-            operator,
-            left,
-            right,
-            ..
-        } => {
-            let left_watched = model.watches_operand(operator, Side::Left);
-            let right_watched = model.watches_operand(operator, Side::Right);
-            let by_left = table.names(point, left as usize);
-            let by_right = table.names(point, right as usize);
-            let first = operand_leak(by_left, heard, left_watched, point, 3, 0);
-            let second = operand_leak(by_right, heard, right_watched, point, 4, 0);
-            first_of(first, second)
-        }
-        Node::Read { array, index, .. } => {
-            let watched = model.watches_index(region_at(routine, array as usize));
-            let by_index = table.names(point, index as usize);
-            operand_leak(by_index, heard, watched, point, 3, 0)
-        }
-        Node::Write {
-            array,
-            index,
-            value,
-        } => write_leak(
-            routine, model, levels, listener, table, heard, point, array, index, value,
-        ),
-        _ => None,
+impl<'a, L: Level, M: LeakageModel> Search<'a, L, M> {
+    // An operand that is held to the listener, if `held` says so.
+    fn heard_leak(&self, held: bool, point: u32, operand: u32, scalar: u32) -> Option<LeakSite>
+        ensures { OperandAnswer (cell self.now.table.now point scalar) self.now.heard held point operand Bound.Listener result }
+    {
+        let names = self.table.names(point as usize, scalar as usize);
+        operand_leak(names, self.heard, held, point, operand, Bound::Listener)
     }
-}
 
-// The leak of the routine, if there is one.
-pub(crate) fn first_leak<L: Level, M: LeakageModel>(
-    routine: &Routine,
-    model: M,
-    levels: &[L],
-    listener: L,
-    table: &ReachTable,
-    heard: NameSet,
-) -> Option<LeakSite>
-    requires { Ready (scene L.order (M.leakage model) routine.now.listing levels.now listener) table.now heard }
-    ensures { LeakAnswer (setting (scene L.order (M.leakage model) routine.now.listing levels.now listener)) result }
-{
-    let counts = counts_of(routine);
-    for point in 0..counts.nodes as usize {
-        if let Some(site) = node_leak(routine, model, levels, listener, table, heard, point) {
-            return Some(site);
+    // An operand that is held to an array's level, by the names that flow to it.
+    fn stored_leak(
+        &self,
+        stored: NameSet,
+        point: u32,
+        operand: u32,
+        scalar: u32,
+    ) -> Option<LeakSite>
+        ensures { OperandAnswer (cell self.now.table.now point scalar) stored true point operand Bound.Array result }
+    {
+        let names = self.table.names(point as usize, scalar as usize);
+        operand_leak(names, stored, true, point, operand, Bound::Array)
+    }
+
+    // At a write: the index held to the listener if it is watched, then the index and the value held to the array's level.
+    fn write_leak(&self, point: u32, array: u32, index: u32, value: u32) -> Option<LeakSite>
+        requires prepared { Prepared L.order M.leakage self.now }
+        requires operands { OperandsExist self.now.routine.now.listing.counts.scalars self.now.routine.now.listing.counts.arrays (Write array index value) }
+        ensures { NodeAnswer (setting (searched L.order M.leakage self.now)) point (Write array index value) result }
+    {
+        let counts = counts_of(self.routine);
+        let stored = flowing(self.levels, self.levels[(counts.scalars + array) as usize]);
+        let watched = self
+            .model
+            .watches_index(region_at(self.routine, array as usize));
+        let first = self.heard_leak(watched, point, 2, index);
+        let second = self.stored_leak(stored, point, 2, index);
+        let third = self.stored_leak(stored, point, 3, value);
+        first.or(second.or(third))
+    }
+
+    // The leak at one node: the lowest operand, then bound, then start name.
+    fn node_leak(&self, point: u32) -> Option<LeakSite>
+        requires prepared { Prepared L.order M.leakage self.now }
+        requires below { point < self.now.routine.now.listing.counts.nodes }
+        ensures { NodeAnswer (setting (searched L.order M.leakage self.now)) point (node (routine_of self.now.routine.now.listing) point) result }
+    {
+        match node_at(self.routine, point as usize) {
+            Node::If { condition, .. } | Node::While { condition, .. } => {
+                self.heard_leak(true, point, 1, condition)
+            }
+            Node::Operate {
+                operator,
+                left,
+                right,
+                ..
+            } => {
+                let left_watched = self.model.watches_operand(operator, Side::Left);
+                let right_watched = self.model.watches_operand(operator, Side::Right);
+                let first = self.heard_leak(left_watched, point, 3, left);
+                let second = self.heard_leak(right_watched, point, 4, right);
+                first.or(second)
+            }
+            Node::Read { array, index, .. } => {
+                let watched = self
+                    .model
+                    .watches_index(region_at(self.routine, array as usize));
+                self.heard_leak(watched, point, 3, index)
+            }
+            Node::Write {
+                array,
+                index,
+                value,
+            } => self.write_leak(point, array, index, value),
+            _ => None,
         }
     }
-    None
+
+    // The leak of the routine, if there is one.
+    pub(crate) fn first_leak(&self) -> Option<LeakSite>
+        requires { Prepared L.order M.leakage self.now }
+        ensures { LeakAnswer (setting (searched L.order M.leakage self.now)) result }
+    {
+        let counts = counts_of(self.routine);
+        (0..counts.nodes).find_map(|point| self.node_leak(point))
+    }
 }

@@ -1,6 +1,6 @@
 //! A call, read from its words.
 
-ghost use Rattle.std.specs.Prelude.{◌≡◌, ◌<◌, length, drop, Some};
+ghost use Rattle.std.specs.Prelude.{◌≡◌, Some};
 ghost use Rattle.command.specs.Calls.{empty_draft, read_words, verb_call, call_of};
 
 use crate::draft::Draft;
@@ -8,7 +8,7 @@ use crate::options::Options;
 use crate::words::{OptionName, Verb, is_help, verb_of};
 
 /// What is asked for.
-#[derive(Clone, Copy)]
+#[derive(Clone, Copy, Debug, PartialEq, Eq)]
 pub enum Call {
     /// The text that says how to call.
     Help,
@@ -21,7 +21,7 @@ pub enum Call {
 }
 
 /// What is wrong with a call. A place is that of the word that is wrong.
-#[derive(Clone, Copy)]
+#[derive(Clone, Copy, Debug, PartialEq, Eq)]
 pub enum CallFault {
     NoCommand,
     UnknownCommand,
@@ -55,44 +55,34 @@ fn empty_draft() -> Draft
 }
 
 // Reads the words after the verb.
-fn read_words(verb: Verb, words: &[String]) -> Result<Draft, CallFault>
-    requires { 0 < length words.now }
-    ensures { result ≡ read_words verb 1 (drop 1 words.now) empty_draft }
+fn read_words(verb: Verb, rest: &[String]) -> Result<Draft, CallFault>
+    ensures { result ≡ read_words verb 1 rest.now empty_draft }
 {
     let mut draft = empty_draft();
-    for place in 1..words.len() {
-        draft = draft.take(verb, words[place].as_str(), place)?;
+    for (index, word) in rest.iter().enumerate() {
+        draft = draft.take(verb, word.as_str(), index + 1)?;
     }
     Ok(draft)
 }
 
-// The call of a verb, which is the first word.
-fn verb_call(verb: Verb, words: &[String]) -> Result<Call, CallFault>
-    requires { 0 < length words.now }
-    ensures { result ≡ verb_call (Some verb) (drop 1 words.now) }
+// The call of a verb, by the words after it.
+fn verb_call(verb: Verb, rest: &[String]) -> Result<Call, CallFault>
+    ensures { result ≡ verb_call (Some verb) rest.now }
 {
-    match read_words(verb, words) {
-        Ok(draft) => draft.finish(verb),
-        Err(fault) => Err(fault),
-    }
+    read_words(verb, rest)?.finish(verb)
 }
 
 /// What the words, after the program's name, ask for.
 pub fn call_of(words: &[String]) -> Result<Call, CallFault>
     ensures { result ≡ call_of words.now }
 {
-    if words.is_empty() {
-        return Err(CallFault::NoCommand);
-    }
-    let first = words[0].as_str();
-    if is_help(first) {
-        if words.len() > 1 {
+    let (first, rest) = words.split_first().ok_or(CallFault::NoCommand)?;
+    if is_help(first.as_str()) {
+        if !rest.is_empty() {
             return Err(CallFault::WordAfterHelp);
         }
         return Ok(Call::Help);
     }
-    match verb_of(first) {
-        Some(verb) => verb_call(verb, words),
-        None => Err(CallFault::UnknownCommand),
-    }
+    let verb = verb_of(first.as_str()).ok_or(CallFault::UnknownCommand)?;
+    verb_call(verb, rest)
 }

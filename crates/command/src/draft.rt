@@ -8,7 +8,7 @@ use crate::options::Options;
 use crate::words::{OptionName, Verb, is_dashed, option_of};
 
 /// The file and the options so far, and the option whose value comes next.
-#[derive(Clone, Copy)]
+#[derive(Clone, Copy, Debug, PartialEq, Eq)]
 pub struct Draft {
     pub file: Option<usize>,
     pub options: Options,
@@ -27,9 +27,8 @@ impl Draft {
             return Err(CallFault::Repeated { option });
         }
         Ok(Draft {
-            file: self.file,
-            options: self.options,
             pending: Some(option),
+            ..self
         })
     }
 
@@ -45,8 +44,8 @@ impl Draft {
         }
         Ok(Draft {
             file: Some(place),
-            options: self.options,
             pending: None,
+            ..self
         })
     }
 
@@ -56,9 +55,9 @@ impl Draft {
     {
         if let Some(option) = self.pending {
             return Ok(Draft {
-                file: self.file,
                 options: self.options.with(option, place),
                 pending: None,
+                ..self
             });
         }
         match option_of(word) {
@@ -74,9 +73,7 @@ impl Draft {
         if let Some(option) = self.pending {
             return Err(CallFault::NoValue { option });
         }
-        let Some(file) = self.file else {
-            return Err(CallFault::NoFile);
-        };
+        let file = self.file.ok_or(CallFault::NoFile)?;
         if let Some(option) = self.options.missing(verb) {
             return Err(CallFault::Missing { option });
         }

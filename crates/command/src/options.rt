@@ -5,8 +5,10 @@ ghost use Rattle.command.specs.Options.{given, with_option, missing};
 
 use crate::words::{OptionName, Verb};
 
+// Places, and not the words, so that a call holds nothing of what it was read from.
+
 /// For each option that is given, the place of the word that is its value.
-#[derive(Clone, Copy)]
+#[derive(Clone, Copy, Debug, PartialEq, Eq)]
 pub struct Options {
     pub levels: Option<usize>,
     pub order: Option<usize>,
@@ -56,19 +58,19 @@ impl Options {
     pub(crate) fn missing(self, verb: Verb) -> Option<OptionName>
         ensures { result ≡ missing verb self }
     {
-        if let Verb::Show = verb {
+        if verb == Verb::Show {
             return None;
         }
         if self.levels.is_none() {
             return Some(OptionName::Levels);
         }
-        if let Verb::Clear = verb {
+        if verb == Verb::Clear {
             return None;
         }
         if self.values.is_none() {
             return Some(OptionName::Values);
         }
-        if let Verb::Run = verb {
+        if verb == Verb::Run {
             return None;
         }
         if self.other.is_none() {

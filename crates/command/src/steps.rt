@@ -12,8 +12,5 @@ pub const MOST_STEPS: u32 = 1000000;
 pub fn steps_of(word: &[u8]) -> Option<u32>
     ensures { result ≡ steps_of word.now }
 {
-    match read_number(word) {
-        Some(steps) if steps <= MOST_STEPS => Some(steps),
-        _ => None,
-    }
+    read_number(word).filter(|steps| *steps <= MOST_STEPS)
 }

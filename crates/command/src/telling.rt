@@ -14,10 +14,10 @@ pub const USAGE: &str =
 pub fn word_at(words: &[String], place: usize) -> &str
     ensures { result.now ≡ word_in words.now place }
 {
-    if place < words.len() {
-        words[place].as_str()
-    } else {
-        ""
+    // A match: of what `map_or` gives with the library's `as_str`, no proof tells here.
+    match words.get(place) {
+        Some(word) => word.as_str(),
+        None => "",
     }
 }
 
@@ -37,22 +37,13 @@ pub fn fault_text(heap: Global, fault: CallFault, words: &[String]) -> Result<St
             let word = word_at(words, place);
             format!(in heap; "{verb} has no option '{word}'")
         }
-        CallFault::Repeated { option } => {
-            let word = option.word();
-            format!(in heap; "{word} is given twice")
-        }
-        CallFault::NoValue { option } => {
-            let word = option.word();
-            format!(in heap; "{word} wants a value")
-        }
+        CallFault::Repeated { option } => format!(in heap; "{option} is given twice"),
+        CallFault::NoValue { option } => format!(in heap; "{option} wants a value"),
         CallFault::NoFile => format!(in heap; "{verb} wants a file"),
         CallFault::SecondFile { place } => {
             let word = word_at(words, place);
             format!(in heap; "{verb} takes one file, and not '{word}' too")
         }
-        CallFault::Missing { option } => {
-            let word = option.word();
-            format!(in heap; "{verb} wants {word}")
-        }
+        CallFault::Missing { option } => format!(in heap; "{verb} wants {option}"),
     }
 }

@@ -1,11 +1,12 @@
 //! The words that a call knows.
 
-ghost use Rattle.std.specs.Prelude.{◌≡◌};
-ghost use Rattle.std.specs.Str.{bytes_eq};
+ghost use Rattle.std.specs.Prelude.{◌≡◌, Some};
 ghost use Rattle.command.specs.Words.{is_help, verb_of, option_of, option_word, takes, is_dashed};
 
+use std::fmt;
+
 /// What is done with a listing.
-#[derive(Clone, Copy)]
+#[derive(Clone, Copy, Debug, PartialEq, Eq)]
 pub enum Verb {
     Show,
     Clear,
@@ -14,7 +15,7 @@ pub enum Verb {
 }
 
 /// An option, which takes the word after it.
-#[derive(Clone, Copy)]
+#[derive(Clone, Copy, Debug, PartialEq, Eq)]
 pub enum OptionName {
     Levels,
     Order,
@@ -26,34 +27,25 @@ pub enum OptionName {
     Lines,
 }
 
-// Whether the two are the same text.
-fn same(word: &str, name: &str) -> bool
-    ensures { result ≡ bytes_eq word.now name.now }
-{
-    word == name
-}
-
 // Whether the word asks for help.
 pub(crate) fn is_help(word: &str) -> bool
     ensures { result ≡ is_help word.now }
 {
-    same(word, "help") || same(word, "--help") || same(word, "-h")
+    matches!(word, "help" | "--help" | "-h")
 }
+
+// A word that names no verb or no option is `None`, with no error of its own: the caller tells the fault with the word's place.
 
 // The verb that the word names.
 pub(crate) fn verb_of(word: &str) -> Option<Verb>
     ensures { result ≡ verb_of word.now }
 {
-    if same(word, "show") {
-        Some(Verb::Show)
-    } else if same(word, "clear") {
-        Some(Verb::Clear)
-    } else if same(word, "run") {
-        Some(Verb::Run)
-    } else if same(word, "twin") {
-        Some(Verb::Twin)
-    } else {
-        None
+    match word {
+        "show" => Some(Verb::Show),
+        "clear" => Some(Verb::Clear),
+        "run" => Some(Verb::Run),
+        "twin" => Some(Verb::Twin),
+        _ => None,
     }
 }
 
@@ -61,24 +53,16 @@ pub(crate) fn verb_of(word: &str) -> Option<Verb>
 pub(crate) fn option_of(word: &str) -> Option<OptionName>
     ensures { result ≡ option_of word.now }
 {
-    if same(word, "--levels") {
-        Some(OptionName::Levels)
-    } else if same(word, "--order") {
-        Some(OptionName::Order)
-    } else if same(word, "--listener") {
-        Some(OptionName::Listener)
-    } else if same(word, "--model") {
-        Some(OptionName::Model)
-    } else if same(word, "--values") {
-        Some(OptionName::Values)
-    } else if same(word, "--other") {
-        Some(OptionName::Other)
-    } else if same(word, "--steps") {
-        Some(OptionName::Steps)
-    } else if same(word, "--lines") {
-        Some(OptionName::Lines)
-    } else {
-        None
+    match word {
+        "--levels" => Some(OptionName::Levels),
+        "--order" => Some(OptionName::Order),
+        "--listener" => Some(OptionName::Listener),
+        "--model" => Some(OptionName::Model),
+        "--values" => Some(OptionName::Values),
+        "--other" => Some(OptionName::Other),
+        "--steps" => Some(OptionName::Steps),
+        "--lines" => Some(OptionName::Lines),
+        _ => None,
     }
 }
 
@@ -86,8 +70,7 @@ pub(crate) fn option_of(word: &str) -> Option<OptionName>
 pub(crate) fn is_dashed(word: &str) -> bool
     ensures { result ≡ is_dashed word.now }
 {
-    let bytes = word.as_bytes();
-    bytes.len() > 1 && bytes[0] == b'-' && bytes[1] == b'-'
+    word.starts_with("--")
 }
 
 impl OptionName {
@@ -105,6 +88,14 @@ impl OptionName {
             OptionName::Steps => "--steps",
             OptionName::Lines => "--lines",
         }
+    }
+}
+
+impl fmt::Display for OptionName {
+    ghost output = { λ option. Some (option_word option) };
+
+    fn fmt<W: fmt::Write>(&self, f: &mut fmt::Formatter<W>) -> fmt::Result {
+        f.write_str(self.word())
     }
 }
 

@@ -24,6 +24,8 @@ pub fn table_lookup() -> &'static [u8]
     b"   0 H          2          1          2           \n   0 A          0          4                      \n   0 R          1          0          0           \n   1 K          0          7                      \n"
 }
 
+// The look-ups differ in a few columns. Each is a text of its own, since a text that is put together has to be allocated.
+
 /// The same look-up in four cells from cell 14 on.
 pub fn lookup_from_fourteen() -> &'static [u8]
     ensures { listing_read result.now ≡ Ok (listed 2 (cells 14 4) (Read 1 0 0 ∷ (Constant 0 7 ∷ []))) }

@@ -8,6 +8,8 @@ use Rattle.levels.specs.Tables.{start_level}
 use Rattle.lines.specs.Lines.{part}
 use Rattle.listing.specs.declared.parts.Listing.{Listing}
 use Rattle.listing.specs.Forms.{routine_of}
+use Rattle.clearance.specs.declared.leak.Bound.{Bound}
+use Rattle.clearance.specs.declared.leak.Bound.TheVariants.{Listener, Array}
 use Rattle.clearance.specs.declared.leak.LeakSite.{LeakSite}
 use Rattle.path.specs.declared.place.Path.{Path}
 use Rattle.texts.specs.Refusals.{line_shown}
@@ -32,8 +34,9 @@ array_written (While c j) = None
 array_written (EndWhile h) = None
 
 -- the array whose level is bound b; none where it is the listener's level
-abbrev pub bound_array : ℕ → Node → Option ℕ
-bound_array b n = cond (b == 0) None (array_written n)
+abbrev pub bound_array : Bound → Node → Option ℕ
+bound_array Listener n = None
+bound_array Array n = array_written n
 
 -- the line of the node, with the operand marked, where there are a arrays
 abbrev pub place_text : List ℕ → ℕ → LeakSite → List ℕ

@@ -2,7 +2,7 @@
 use Rattle.std.specs.Prelude.{ℕ, ◌+◌, ◌-◌, cond, List, [], ◌∷◌, ◌++◌, length, codes, decimal, nat_lt}
 use Rattle.texts.specs.Layouts.{times}
 use Rattle.settings.specs.declared.model.Layered.{Layered}
-use Rattle.settings.specs.Models.{base_words, layer_words}
+use Rattle.settings.specs.Models.{model_words}
 
 -- what start name m is, where there are s scalars
 abbrev pub start_name : ℕ → ℕ → List ℕ
@@ -20,4 +20,4 @@ module _ {L : Type 0} (named : L → List ℕ) where
 
   abbrev pub who_text : List ℕ → Layered → ℕ → List L → L → List ℕ
   who_text order model s levels listener =
-      codes "order     " ++ (order ++ (10 ∷ (codes "listener  " ++ (named listener ++ (10 ∷ (codes "model     " ++ (base_words model.base ++ (layer_words model.timed ++ (10 ∷ (10 ∷ (codes "name      level" ++ (10 ∷ level_rows s 0 levels))))))))))))
+      codes "order     " ++ (order ++ (10 ∷ (codes "listener  " ++ (named listener ++ (10 ∷ (codes "model     " ++ (model_words model ++ (10 ∷ (10 ∷ (codes "name      level" ++ (10 ∷ level_rows s 0 levels)))))))))))

@@ -1,12 +1,13 @@
 //! What a clearing finds of a listing.
 
-ghost use Rattle.std.specs.Prelude.{◌≡◌, IfOk, string_bytes};
-ghost use Rattle.clearance.specs.declared.outcome.Outcome.TheVariants.{Leak};
-ghost use Rattle.findings.specs.Findings.{table_text, Told, LeakTold, Found};
+ghost use Rattle.std.specs.Prelude.{◌≡◌, Err, IfOk, string_bytes};
+ghost use Rattle.clearance.specs.declared.outcome.ClearFault.TheVariants.{Leak};
+ghost use Rattle.findings.specs.declared.finding.NotCleared.TheVariants.{NoMemory};
+ghost use Rattle.findings.specs.Findings.{table_text, Told, WayTold, Found};
 
-use crate::leaking::{site_text, way_text};
-use crate::who::who_text;
-use clearance::{Examination, LeakSite, Outcome, examine};
+use crate::scene::Scene;
+use crate::way::Way;
+use clearance::{ClearFault, Examination, LeakSite, examine};
 use listing::{Counts, load};
 use path::leak_path;
 use reach::counts_of;
@@ -15,15 +16,23 @@ use settings::named::NamedLevel;
 use std::alloc::{AllocError, Global};
 use texts::refused::refusal_text;
 
-/// What a clearing finds, with its record.
-#[derive(Drop)]
-pub enum Finding {
-    /// Nothing leaks.
-    Cleared { text: String },
-    /// The leak that is named.
+/// Why a listing is not cleared.
+#[derive(Debug, Drop)]
+pub enum NotCleared {
+    /// It leaks, and the text names the leak.
     Leaking { text: String },
-    /// The listing does not load, or the table has another length.
+    /// It does not load, or the table has another length, and the text says so.
     Refused { text: String },
+    /// There is no memory left.
+    NoMemory,
+}
+
+impl From<AllocError> for NotCleared {
+    ghost from_gives = { λ _ reason. reason ≡ NoMemory };
+
+    fn from(_error: AllocError) -> NotCleared {
+        NotCleared::NoMemory
+    }
 }
 
 /// Why the table is refused.
@@ -38,27 +47,20 @@ fn table_text(heap: Global, counts: Counts, given: usize) -> Result<String, Allo
     )
 }
 
-/// The record of a leak.
-fn leak_text<L: NamedLevel>(
-    heap: Global,
-    exam: &Examination<Layered>,
-    bytes: &[u8],
-    levels: &[L],
-    listener: L,
-    site: LeakSite,
-) -> Result<String, AllocError>
-    requires { exam.now.outcome ≡ Leak site }
-    ensures { IfOk result (λ s. LeakTold L.named L.order bytes.now levels.now listener exam.now.routine.listing site (string_bytes s)) }
+/// The way of a leak, if there is one.
+fn leak_way(heap: Global, exam: &Examination<Layered>, site: LeakSite) -> Result<String, AllocError>
+    requires { exam.now.outcome ≡ Err (Leak site) }
+    ensures { IfOk result (λ s. WayTold exam.now.routine.listing site (string_bytes s)) }
 {
-    let routine = exam.routine();
-    let place = site_text(heap, routine, bytes, levels, listener, site)?;
-    match leak_path(exam) {
-        Some(path) => {
-            let way = way_text(heap, routine, site, &path)?;
-            format!(in heap; "{place}{way}")
-        }
-        None => Ok(place),
-    }
+    let Some(path) = leak_path(exam) else {
+        return Ok(String::new(heap));
+    };
+    let way = Way {
+        routine: exam.routine(),
+        site,
+        path: &path,
+    };
+    way.text(heap)
 }
 
 /// What the examination comes to, in words.
@@ -68,50 +70,45 @@ fn finding_of<L: NamedLevel>(
     bytes: &[u8],
     levels: &[L],
     listener: L,
-) -> Result<Finding, AllocError>
-    ensures { IfOk result (λ f. Told L.named L.told L.order bytes.now exam.now.model levels.now listener exam.now.routine.listing exam.now.outcome f) }
+) -> Result<String, NotCleared>
+    ensures { Told L.named L.told L.order bytes.now exam.now.model levels.now listener exam.now.routine.listing exam.now.outcome result }
 {
-    let counts = counts_of(exam.routine());
+    let scene = Scene {
+        bytes,
+        routine: exam.routine(),
+        model: exam.model(),
+        levels,
+        listener,
+    };
     match exam.outcome() {
-        Outcome::TableLength => {
-            let text = table_text(heap, counts, levels.len())?;
-            Ok(Finding::Refused { text })
+        Err(ClearFault::TableLength) => {
+            let text = table_text(heap, counts_of(scene.routine), levels.len())?;
+            Err(NotCleared::Refused { text })
         }
-        Outcome::Granted => {
-            let who = who_text(
-                heap,
-                exam.model(),
-                counts.scalars as usize,
-                levels,
-                listener,
-            )?;
+        Ok(()) => {
+            let who = scene.who_text(heap)?;
             let text = format!(in heap; "{who}\ncleared\n")?;
-            Ok(Finding::Cleared { text })
+            Ok(text)
         }
-        Outcome::Leak(site) => {
-            let who = who_text(
-                heap,
-                exam.model(),
-                counts.scalars as usize,
-                levels,
-                listener,
-            )?;
-            let leak = leak_text(heap, exam, bytes, levels, listener, site)?;
-            let text = format!(in heap; "{who}{leak}")?;
-            Ok(Finding::Leaking { text })
+        Err(ClearFault::Leak(site)) => {
+            let who = scene.who_text(heap)?;
+            let place = scene.site_text(heap, site)?;
+            let way = leak_way(heap, exam, site)?;
+            let text = format!(in heap; "{who}{place}{way}")?;
+            Err(NotCleared::Leaking { text })
         }
     }
 }
 
-/// Loads the listing, clears it, and says what was found.
+/// Loads the listing and clears it: the record of its clearance, or why it is not cleared.
 pub fn clear_listing<L: NamedLevel>(
     heap: Global,
     bytes: &[u8],
     model: Layered,
     levels: &[L],
     listener: L,
-) -> Result<Finding, AllocError>
-    ensures { IfOk result (λ f. Found L.named L.told L.order bytes.now model levels.now listener f) }
+) -> Result<String, NotCleared>
+    ensures { Found L.named L.told L.order bytes.now model levels.now listener result }
 {
     match load(bytes) {
         Ok(routine) => {
@@ -119,8 +116,8 @@ pub fn clear_listing<L: NamedLevel>(
             finding_of(heap, &exam, bytes, levels, listener)
         }
         Err(fault) => {
-            let text = refusal_text(heap, bytes, fault.refusal())?;
-            Ok(Finding::Refused { text })
+            let text = refusal_text(heap, bytes, fault.into())?;
+            Err(NotCleared::Refused { text })
         }
     }
 }

@@ -3,7 +3,7 @@
 
 mod finding;
 mod leaking;
+mod scene;
 mod way;
-mod who;
 
-pub use finding::{Finding, clear_listing};
+pub use finding::{NotCleared, clear_listing};

@@ -7,13 +7,13 @@ use crate::model::LeakageModel;
 use rules::{Operator, Region, Side};
 
 /// Watches every index, with the cell as the mark; operators are unwatched.
-#[derive(Clone, Copy)]
+#[derive(Clone, Copy, Debug, PartialEq, Eq)]
 pub struct Baseline;
 
 impl LeakageModel for Baseline {
     ghost leakage = { λ _. baseline };
 
-    ghost honest = { λ m. baseline_honest };
+    ghost honest = { λ _. baseline_honest };
 
     fn watches_operand(self, _operator: Operator, _side: Side) -> bool {
         false

@@ -9,7 +9,7 @@ use crate::model::LeakageModel;
 use rules::{Operator, Region, Side};
 
 /// Lines of 16 or of 8 cells: watches the index into an array that lies in more than one line; operators are unwatched.
-#[derive(Clone, Copy)]
+#[derive(Clone, Copy, Debug, PartialEq, Eq)]
 pub enum CacheLine {
     Sixteen,
     Eight,

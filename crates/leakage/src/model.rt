@@ -7,6 +7,7 @@ ghost use Rattle.rules.specs.Routine.{Accepted};
 use rules::{Operator, Region, Side};
 
 /// What a listener hears: a mark for each operator and each access. A model watches what its marks may depend on.
+// No method has a default body, though several models hear no operator: it would have to give the answer of every model.
 pub trait LeakageModel: Copy {
     /// The model's four answers, as functions of what is asked.
     ghost leakage: { Self → Leakage };

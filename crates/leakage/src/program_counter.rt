@@ -1,19 +1,19 @@
 //! The model that hears the program counter alone.
 
 ghost use Rattle.rules.specs.Standing.{program_counter};
-ghost use Rattle.std.proofs.Common.{rules};
+ghost use Rattle.rules.proofs.Standing.{counter_honest};
 
 use crate::model::LeakageModel;
 use rules::{Operator, Region, Side};
 
 /// Watches nothing; every mark is 0.
-#[derive(Clone, Copy)]
+#[derive(Clone, Copy, Debug, PartialEq, Eq)]
 pub struct ProgramCounter;
 
 impl LeakageModel for ProgramCounter {
     ghost leakage = { λ _. program_counter };
 
-    ghost honest = { Prim.search rules };
+    ghost honest = { λ _. counter_honest };
 
     fn watches_operand(self, _operator: Operator, _side: Side) -> bool {
         false

@@ -8,7 +8,7 @@ use crate::model::LeakageModel;
 use rules::{Operator, Region, Side};
 
 /// Hears the sizes of the operands of quotient and remainder; all else is as the model below hears it.
-#[derive(Clone, Copy)]
+#[derive(Clone, Copy, Debug, PartialEq, Eq)]
 pub struct TimeVariable<M> {
     pub below: M,
 }
@@ -27,16 +27,13 @@ fn significant_bits(value: u32) -> u32
 fn takes_time(operator: Operator) -> bool
     ensures { result ≡ divides operator }
 {
-    match operator {
-        Operator::Quotient | Operator::Remainder => true,
-        _ => false,
-    }
+    matches!(operator, Operator::Quotient | Operator::Remainder)
 }
 
 impl<M: LeakageModel> LeakageModel for TimeVariable<M> {
     ghost leakage = { λ t. time_variable (M.leakage t.below) };
 
-    ghost honest = { λ m. time_honest _ (M.honest m.below) };
+    ghost honest = { λ t. time_honest _ (M.honest t.below) };
 
     fn watches_operand(self, operator: Operator, side: Side) -> bool {
         takes_time(operator) || self.below.watches_operand(operator, side)

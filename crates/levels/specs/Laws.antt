@@ -1,10 +1,47 @@
--- Pairs keep the laws that both halves keep.
-use Rattle.std.specs.Prelude.{◌≡◌}
-use Rattle.std.proofs.Common.{ap}
-use Rattle.std.proofs.lemmas.Bool.{and_parts, and_from}
+-- Public and secret keep the laws, and pairs keep those that both halves keep.
+use Rattle.std.specs.Prelude.{◌≡◌, true, refl}
+use Rattle.std.proofs.Common.{sym, ap}
+use Rattle.std.proofs.lemmas.Bool.{and_parts, and_from, true≢false}
 use Rattle.rules.specs.Order.{Order, Lawful}
+use Rattle.levels.specs.Secrecy.{secrecy_join, secrecy_flows, secrecy_order}
+use Rattle.levels.specs.declared.secrecy.Secrecy.{Secrecy}
+use Rattle.levels.specs.declared.secrecy.Secrecy.TheVariants.{Public, Secret}
 use Rattle.levels.specs.Pairs.{pair_order}
 use Rattle.levels.specs.declared.pair.Pair.{Pair}
+
+associative : (a b c : Secrecy) → secrecy_join (secrecy_join a b) c ≡ secrecy_join a (secrecy_join b c)
+associative Public b c = refl
+associative Secret b c = refl
+
+commutative : (a b : Secrecy) → secrecy_join a b ≡ secrecy_join b a
+commutative Public Public = refl
+commutative Public Secret = refl
+commutative Secret Public = refl
+commutative Secret Secret = refl
+
+idempotent : (a : Secrecy) → secrecy_join a a ≡ a
+idempotent Public = refl
+idempotent Secret = refl
+
+join_of_flow : (a b : Secrecy) → secrecy_flows a b ≡ true → secrecy_join a b ≡ b
+join_of_flow Public b h = refl
+join_of_flow Secret Public h = absurd (true≢false (sym h))
+join_of_flow Secret Secret h = refl
+
+flow_of_join : (a b : Secrecy) → secrecy_join a b ≡ b → secrecy_flows a b ≡ true
+flow_of_join Public b h = refl
+flow_of_join Secret Public h = ap (λ a. secrecy_flows a Public) h
+flow_of_join Secret Secret h = refl
+
+pub secrecy_lawful : Lawful secrecy_order
+secrecy_lawful = record {
+  associative = associative;
+  commutative = commutative;
+  idempotent = idempotent;
+  with_least = λ a. refl;
+  join_of_flow = join_of_flow;
+  flow_of_join = flow_of_join;
+}
 
 -- pairs are equal by their halves
 pub both : {A B : Type 0} {x x' : A} {y y' : B} → x ≡ x' → y ≡ y' → ◌≡◌ {A = Pair A B} (record { first = x; second = y }) (record { first = x'; second = y' })

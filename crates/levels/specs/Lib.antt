@@ -4,5 +4,4 @@ pub mod Pairs
 pub mod Names
 pub mod Tables
 pub mod OwnersLaws
-pub mod Union
 pub mod Laws

@@ -9,7 +9,7 @@ use Rattle.std.proofs.lemmas.Bool.{eqb-true, eq-eqb}
 use Rattle.rules.specs.Order.{Lawful}
 use Rattle.levels.specs.Owners.{owners_order}
 use Rattle.levels.specs.declared.owners.Owners.{Owners}
-use Rattle.levels.specs.Union.{or_assoc}
+use Rattle.rules.proofs.Standing.{or_assoc}
 
 -- a set of owners is its number
 pub same_owners : (a b : Owners) → a.set ≡ b.set → a ≡ b

@@ -1,5 +1,5 @@
 -- Public below secret.
-use Rattle.std.specs.Prelude.{Bool, true, false}
+use Rattle.std.specs.Prelude.{ℕ, Bool, true, false, cond, Some, None, Option, ◌==◌}
 use Rattle.rules.specs.Order.{Order}
 use Rattle.levels.specs.declared.secrecy.Secrecy.{Secrecy}
 use Rattle.levels.specs.declared.secrecy.Secrecy.TheVariants.{Public, Secret}
@@ -15,3 +15,7 @@ secrecy_flows Secret Secret = true
 
 abbrev pub secrecy_order : Order Secrecy
 secrecy_order = record { least = Public; join = secrecy_join; flows = secrecy_flows }
+
+-- The level that a digit tells: 0 public, 1 secret; the digit 0 is byte 48.
+abbrev pub secrecy_of : ℕ → Option Secrecy
+secrecy_of b = cond (b == 48) (Some Public) (cond (b == 49) (Some Secret) None)

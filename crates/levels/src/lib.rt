@@ -13,5 +13,5 @@ pub use level::Level;
 pub use name_set::NameSet;
 pub use owners::Owners;
 pub use pair::Pair;
-pub use secrecy::Secrecy;
+pub use secrecy::{Secrecy, UnknownLevel};
 pub use table::{flowing, join_of};

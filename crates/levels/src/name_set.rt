@@ -4,7 +4,7 @@ ghost use Rattle.std.specs.Prelude.{◌≡◌, ℕ, ◌<◌, ◌≤◌, true, �
 ghost use Rattle.levels.specs.Names.{Has, has, no_names, Lowest};
 
 /// A set of start names below 32: name k is in it where bit k stands.
-#[derive(Clone, Copy, PartialEq, Eq)]
+#[derive(Clone, Copy, Debug, PartialEq, Eq)]
 pub struct NameSet {
     bits: u32,
 }
@@ -66,11 +66,6 @@ impl NameSet {
     pub fn lowest(self) -> Option<u32>
         ensures { Lowest self result }
     {
-        for name in 0..32 {
-            if self.contains(name) {
-                return Some(name as u32);
-            }
-        }
-        None
+        (0..32).find(|name| self.contains(*name as usize))
     }
 }

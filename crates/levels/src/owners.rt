@@ -3,7 +3,7 @@
 ghost use Rattle.std.specs.Prelude.{◌^◌, ◌<◌};
 
 /// A set of 16 owners: bit k stands where owner k is in it.
-#[derive(Clone, Copy)]
+#[derive(Clone, Copy, Debug, PartialEq, Eq)]
 pub struct Owners {
     pub set: u16,
     ghost within: { set < 2 ^ 16 },

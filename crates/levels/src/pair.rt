@@ -6,7 +6,7 @@ ghost use Rattle.levels.specs.Laws.{pair_lawful};
 use crate::level::Level;
 
 /// Two levels, each in its own order.
-#[derive(Clone, Copy)]
+#[derive(Clone, Copy, Debug, PartialEq, Eq)]
 pub struct Pair<A, B> {
     pub first: A,
     pub second: B,

@@ -1,12 +1,13 @@
 //! Public below secret.
 
-ghost use Rattle.levels.specs.Secrecy.{secrecy_order};
-ghost use Rattle.std.proofs.Common.{rules};
+ghost use Rattle.std.specs.Prelude.{◌≡◌, ok_or};
+ghost use Rattle.levels.specs.Secrecy.{secrecy_order, secrecy_of};
+ghost use Rattle.levels.specs.Laws.{secrecy_lawful};
 
 use crate::level::Level;
 
 /// Two levels: public is below secret.
-#[derive(Clone, Copy)]
+#[derive(Clone, Copy, Debug, PartialEq, Eq, PartialOrd, Ord)]
 pub enum Secrecy {
     Public,
     Secret,
@@ -15,23 +16,35 @@ pub enum Secrecy {
 impl Level for Secrecy {
     ghost order = { secrecy_order };
 
-    ghost lawful = { Prim.search rules };
+    ghost lawful = { secrecy_lawful };
 
     fn least() -> Secrecy {
         Secrecy::Public
     }
 
     fn join(self, other: Secrecy) -> Secrecy {
-        match self {
-            Secrecy::Public => other,
-            Secrecy::Secret => Secrecy::Secret,
-        }
+        self.max(other)
     }
 
     fn flows_to(self, other: Secrecy) -> bool {
-        match (self, other) {
-            (Secrecy::Secret, Secrecy::Public) => false,
-            _ => true,
+        self <= other
+    }
+}
+
+/// A byte that is no level digit.
+#[derive(Clone, Copy, Debug, PartialEq, Eq)]
+pub struct UnknownLevel(pub u8);
+
+impl TryFrom<u8> for Secrecy {
+    type Error = UnknownLevel;
+
+    ghost try_from_gives = { λ digit result. result ≡ ok_or (secrecy_of digit) (record { 0 = digit }) };
+
+    fn try_from(digit: u8) -> Result<Secrecy, UnknownLevel> {
+        match digit {
+            b'0' => Ok(Secrecy::Public),
+            b'1' => Ok(Secrecy::Secret),
+            _ => Err(UnknownLevel(digit)),
         }
     }
 }

@@ -13,12 +13,10 @@ pub fn join_of<L: Level>(levels: &[L], names: NameSet) -> L
     ensures { result ≡ joined L.order (start_level L.order levels.now) (has names) (length levels.now) }
 {
     let mut all = L::least();
-    let mut name = 0;
-    for level in levels {
+    for (name, level) in levels.iter().enumerate() {
         if names.contains(name) {
             all = all.join(*level);
         }
-        name += 1;
     }
     all
 }
@@ -28,12 +26,10 @@ pub fn flowing<L: Level>(levels: &[L], bound: L) -> NameSet
     ensures { FlowTo L.order levels.now bound result }
 {
     let mut names = NameSet::empty();
-    let mut place = 0;
-    for level in levels {
+    for (name, level) in levels.iter().enumerate() {
         if level.flows_to(bound) {
-            names = names.union(NameSet::single(place));
+            names = names.union(NameSet::single(name));
         }
-        place += 1;
     }
     names
 }

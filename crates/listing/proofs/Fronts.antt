@@ -1,14 +1,12 @@
 -- How many lines decide a fault, and no fewer; what the line is that it stands on.
-use Rattle.std.proofs.Common.{◌≡◌, ℕ, zero, suc, ◌+◌, ◌-◌, ◌*◌, ◌/◌, ◌%◌, ◌<◌, ◌≤◌, min, Bool, true, false, ◌||◌, eqb, ltb, leb, ◌⊎◌, List, [], ◌∷◌, ◌++◌, length, take, drop, set, replicate, Ok, Err, Result, sym, refl, ap, ◌∙◌, subst, inl, inr, arith, length-drop}
+use Rattle.std.proofs.Common.{◌≡◌, ℕ, zero, suc, ◌+◌, ◌-◌, ◌*◌, ◌/◌, ◌%◌, ◌<◌, ◌≤◌, min, Bool, true, false, ◌||◌, eqb, ltb, ◌⊎◌, List, [], ◌∷◌, ◌++◌, length, take, drop, set, replicate, Ok, Err, Result, sym, refl, ap, ◌∙◌, subst, inl, inr, arith, length-drop}
 use native.Mathlib.Nat.{min-eq_left, min-eq_right, min-le_left, min-le_right}
 use Rattle.std.proofs.lemmas.List.{length-append, length-take-le, take_at, drop_at, take-append-le, take-take, take_all}
 use Rattle.std.proofs.lemmas.Bool.{cond-true, cond-false, eqb-true, eqb-false, ltb-false, cases_Bool, cases_eq, cases_lt, or_parts}
 use Rattle.lines.specs.declared.faults.ColumnFault.{ColumnFault}
 use Rattle.lines.specs.declared.faults.LineFault.{LineFault}
 use Rattle.lines.specs.declared.faults.LineFault.TheVariants as fault
-use Rattle.lines.specs.declared.kind.Kind.TheVariants.{Header}
 use Rattle.lines.specs.declared.line.Line.{Line}
-use Rattle.lines.specs.Kinds.{same_kind}
 use Rattle.lines.specs.Laws.{Leftmost, LineOf}
 use Rattle.lines.specs.Lines.{bind, part, fault_at, line_read}
 use Rattle.lines.specs.Text.{over}
@@ -26,7 +24,7 @@ use Rattle.listing.specs.Blocks.{Open, scan, placed}
 use Rattle.listing.specs.Forms.{no_region}
 use Rattle.listing.specs.Nodes.{in_column, node_line, node_from, node_at}
 use Rattle.listing.specs.Reading.{header_of, header_read, region_of, region_read, regions_scan, regions_read, nodes_read, in_line, body_read, listing_read}
-use Rattle.listing.proofs.Decided.{line, On, Inner, In, in_cond, in_placed, in_node, in_region, on_node, on_region, err_same, blank, nodes_on, parts_on, own_line}
+use Rattle.listing.proofs.Decided.{line, On, Inner, In, in_placed, in_node, in_region, on_node, on_region, err_same, blank, nodes_on, parts_on, own_line}
 use Rattle.listing.proofs.Laws.{none_has}
 use Rattle.listing.proofs.Nested.{on, with_node}
 use Rattle.listing.proofs.Readback.{length_part}
@@ -106,9 +104,7 @@ regions_found s n (suc k) j b gs g h e =
         subst (Found s n) (err_same r) (on_line s n (1 + j) g' w (omega arith) (at_line s (1 + j) (λ x. region_of x j b) g' (in_region j b) q))
 
 in_header : (x : Line) → In 0 (header_of x)
-in_header x =
-    in_cond 0 (eqb x.number 0) _ _ (in_cond 0 (same_kind x.kind Header) _ _ (in_cond 0 (leb x.first 24) _ _
-    (in_cond 0 (leb x.second 8) _ _ (in_cond 0 (leb x.third 128) _ _ tt (refl, tt)) (refl, tt)) (refl, tt)) (refl, tt)) (refl, tt)
+in_header x = grind arith
 
 -- what is known of a fault past the first refusal
 abbrev Known : List ℕ → RoutineFault → Type 0
@@ -168,10 +164,10 @@ shape_or_whole s f e =
     ]
 
 shape_line : (n : ℕ) (g : LineFault) → fault_of.Shape n ≡ fault_of.Line g → ⊥
-shape_line n g e = let z : ◌≡◌ {A = ℕ} 0 1 = cc in omega arith
+shape_line n g e = cc
 
 shape_length : (n : ℕ) → fault_of.Shape n ≡ fault_of.Length → ⊥
-shape_length n e = let z : ◌≡◌ {A = ℕ} 0 1 = cc in omega arith
+shape_length n e = cc
 
 -- the lines that decide
 decided : (s : List ℕ) (f : RoutineFault) → listing_read s ≡ Err f → Decide (deciding s f) s f
@@ -223,12 +219,12 @@ other i (fault.Column c) =
           record { bytes = no_letter; long = refl; column = fault_at i 1; refused = refl; differs = λ e. one (column_same e) }
       | inr t ↦ without_number i (fault.Column c) (λ e. t (ap (λ d. d.field) (column_same e)))
     ]
-other i (fault.Misplaced l f) = without_number i (fault.Misplaced l f) (λ e. let z : ◌≡◌ {A = ℕ} 0 1 = cc in omega arith)
-other i (fault.Count l f) = without_number i (fault.Count l f) (λ e. let z : ◌≡◌ {A = ℕ} 0 1 = cc in omega arith)
-other i (fault.Region l f) = without_number i (fault.Region l f) (λ e. let z : ◌≡◌ {A = ℕ} 0 1 = cc in omega arith)
-other i (fault.Absent l f) = without_number i (fault.Absent l f) (λ e. let z : ◌≡◌ {A = ℕ} 0 1 = cc in omega arith)
-other i (fault.Unpaired l f) = without_number i (fault.Unpaired l f) (λ e. let z : ◌≡◌ {A = ℕ} 0 1 = cc in omega arith)
-other i (fault.TooDeep l) = without_number i (fault.TooDeep l) (λ e. let z : ◌≡◌ {A = ℕ} 0 1 = cc in omega arith)
+other i (fault.Misplaced l f) = without_number i (fault.Misplaced l f) (λ e. cc)
+other i (fault.Count l f) = without_number i (fault.Count l f) (λ e. cc)
+other i (fault.Region l f) = without_number i (fault.Region l f) (λ e. cc)
+other i (fault.Absent l f) = without_number i (fault.Absent l f) (λ e. cc)
+other i (fault.Unpaired l f) = without_number i (fault.Unpaired l f) (λ e. cc)
+other i (fault.TooDeep l) = without_number i (fault.TooDeep l) (λ e. cc)
 
 -- the bytes s with another line i
 module _ (s bytes : List ℕ) (i : ℕ) (long : length bytes ≡ 51) (inside : 51 * i + 51 ≤ length s) where

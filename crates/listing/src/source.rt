@@ -2,8 +2,28 @@
 
 ghost use Rattle.std.specs.Prelude.{◌≡◌, ◌+◌, ◌*◌, ◌≤◌, length};
 ghost use Rattle.lines.specs.Lines.{line_read, part};
+ghost use Rattle.listing.specs.Nodes.{Within, node_line};
 
+use crate::parts::Counts;
 use lines::{ColumnFault, Line, read_line};
+
+/// The bytes of a listing, and the counts that its header gives; the bytes have a line for all that is counted.
+#[derive(Clone, Copy)]
+pub(crate) struct Source<'a> {
+    pub(crate) bytes: &'a [u8],
+    pub(crate) counts: Counts,
+    ghost within: { Within bytes.now counts },
+}
+
+impl Source<'_> {
+    /// The line of node `number`.
+    pub(crate) fn line_of(&self, number: u32) -> u32
+        requires { number ≤ 128 }
+        ensures { result ≡ node_line self.now.counts number }
+    {
+        1 + self.counts.arrays + number
+    }
+}
 
 /// The bytes of line `line`.
 fn line_at(bytes: &[u8], line: u32) -> &[u8; 51]

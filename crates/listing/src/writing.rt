@@ -3,14 +3,13 @@
 ghost use Rattle.std.specs.Prelude.{◌≡◌, ℕ, ◌+◌, ◌*◌, ◌<◌, ◌≤◌, length};
 ghost use Rattle.lines.specs.Text.{over, line_text};
 ghost use Rattle.listing.specs.Answers.{Kept, Written};
-ghost use Rattle.listing.specs.Texts.{region_line, node_as_line, numbered};
+ghost use Rattle.listing.specs.Texts.{numbered};
 
-use crate::faults::{Refusal, refused};
+use crate::faults::{Refusal, Rule};
 use crate::parts::Listing;
 use crate::routine::Routine;
-use crate::text::{header_line, node_line, region_line};
+use crate::text::{Lined, header_line};
 use lines::{Line, line_text};
-use rules::{Node, Region};
 
 /// Writes a line at place `at` of the room.
 fn put_line(line: Line, room: &mut [u8], at: usize)
@@ -21,23 +20,13 @@ fn put_line(line: Line, room: &mut [u8], at: usize)
     room[at..at + 51].copy_from_slice(&text);
 }
 
-/// Writes the lines of the arrays from place `at` on.
-fn put_regions(regions: &[Region], room: &mut [u8], at: usize)
-    requires { (at + 51 * length regions.now ≤ length room.old) × (length regions.now ≤ 8) }
-    ensures { room.new ≡ over at (numbered region_line 0 regions.now) room.old }
+/// Writes the lines of the items from place `at` on.
+fn put_lines<T: Lined>(items: &[T], room: &mut [u8], at: usize)
+    requires { (at + 51 * length items.now ≤ length room.old) × (length items.now ≤ 128) }
+    ensures { room.new ≡ over at (numbered T.line 0 items.now) room.old }
 {
-    for (number, region) in regions.iter().enumerate() {
-        put_line(region_line(number as u32, *region), room, at + 51 * number);
-    }
-}
-
-/// Writes the lines of the nodes from place `at` on.
-fn put_nodes(nodes: &[Node], room: &mut [u8], at: usize)
-    requires { (at + 51 * length nodes.now ≤ length room.old) × (length nodes.now ≤ 128) }
-    ensures { room.new ≡ over at (numbered node_as_line 0 nodes.now) room.old }
-{
-    for (number, node) in nodes.iter().enumerate() {
-        put_line(node_line(number as u32, *node), room, at + 51 * number);
+    for (number, item) in items.iter().enumerate() {
+        put_line(item.line(number as u32), room, at + 51 * number);
     }
 }
 
@@ -50,11 +39,11 @@ fn write_listing(listing: &Listing, room: &mut [u8]) -> Result<usize, Refusal>
     let nodes = listing.counts.nodes as usize;
     let needed = 51 * (1 + arrays + nodes);
     if room.len() < needed {
-        return Err(refused(16, 0, 0));
+        return Err(Rule::Room.at(0, 0));
     }
     put_line(header_line(listing.counts), room, 0);
-    put_regions(&listing.regions[0..arrays], room, 51);
-    put_nodes(&listing.nodes[0..nodes], room, 51 + 51 * arrays);
+    put_lines(&listing.regions[0..arrays], room, 51);
+    put_lines(&listing.nodes[0..nodes], room, 51 + 51 * arrays);
     Ok(needed)
 }
 

@@ -41,7 +41,7 @@ module _ (r : Routine) (m : ℕ) (to : Place) where
     pub hunting_more : Hunting r m to new (i + 1)
     hunting_more =
         record {
-          trailed = E.trailed;
+          trailed = E.trailed H.trailed;
           some = omega (arith, H.some, E.more);
           first = same_place 0 H.some ∙ H.first;
           inside = inside_now;

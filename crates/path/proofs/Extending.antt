@@ -6,15 +6,15 @@ use Rattle.path.specs.declared.place.Place.{Place}
 use Rattle.path.specs.declared.hunt.Entry.{Entry}
 use Rattle.path.specs.declared.hunt.Hunt.{Hunt}
 use Rattle.path.specs.Ways.{Moves, at_place}
-use Rattle.path.specs.Hunts.{entry_at, place_at, Trailed, Noted, Extends, MetAt}
+use Rattle.path.specs.Hunts.{entry_at, place_at, Noted, Extends, MetAt}
 
 -- what is told of an entry that leads on to a place
 abbrev Leads : Routine → Place → ℕ → Entry → Type 0
 Leads r to i x = (x.next ≡ i) × Moves r x.place to × (x.place.scalar < r.scalars)
 
-pub extends_none : (r : Routine) (h : Hunt) (i : ℕ) → Trailed h → Extends r h h i
-extends_none r h i T = record {
-  trailed = T;
+pub extends_none : (r : Routine) (h : Hunt) (i : ℕ) → Extends r h h i
+extends_none r h i = record {
+  trailed = λ T. T;
   more = omega arith;
   kept = λ e l. refl;
   marked = λ p k s. s;
@@ -24,7 +24,7 @@ extends_none r h i T = record {
 module _ (r : Routine) (old : Hunt) (i : ℕ) (inside : i < old.count) where
   pub extends_on : (mid new : Hunt) → Extends r old mid i → Extends r mid new i → Extends r old new i
   extends_on mid new E F = record {
-    trailed = F.trailed;
+    trailed = λ T. F.trailed (E.trailed T);
     more = omega (arith, E.more, F.more);
     kept = λ e l. F.kept e (omega (arith, E.more)) ∙ E.kept e l;
     marked = λ p k s. F.marked p k (E.marked p k s);
@@ -42,7 +42,7 @@ module _ (r : Routine) (old : Hunt) (i : ℕ) (inside : i < old.count) where
       → a.scalar < r.scalars
       → Extends r old new i
   extends_noted mid new a E N M l = record {
-    trailed = N.trailed;
+    trailed = λ T. N.trailed (E.trailed T);
     more = omega (arith, E.more, N.more);
     kept = λ e b. N.kept e (omega (arith, E.more)) ∙ E.kept e b;
     marked = λ p k s. N.marked p k (E.marked p k s);

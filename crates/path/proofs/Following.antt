@@ -72,7 +72,7 @@ followed h from x at z C = record {
 pub falling : (r : Routine) (m : ℕ) (to : Place) (h : Hunt) (i : ℕ) → Hunting r m to h i → Falling h
 falling r m to h i H = record {
   long = H.trailed.entries_long;
-  few = omega (arith, H.trailed.rest);
+  few = omega (arith, h.rest);
   falls = λ e z b. (H.leads e z b).0;
 }
 
@@ -85,7 +85,7 @@ pub way_found :
     → Way r m to x
 way_found r m to h i x H within begins F = record {
   some = F.some;
-  few = omega (arith, F.few, H.trailed.rest);
+  few = omega (arith, F.few, h.rest);
   begins = subst (λ (a : Place). Begins r m a x.origin) (sym F.begins) begins;
   steps = λ j b.
       let s = F.steps j b in

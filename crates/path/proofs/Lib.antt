@@ -1,3 +1,4 @@
+mod Beginning
 mod Notes
 mod Extending
 mod Ending

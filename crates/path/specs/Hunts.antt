@@ -1,5 +1,5 @@
 -- The hunt for a way, backwards from its end.
-use Rattle.std.specs.Prelude.{◌≡◌, ℕ, ◌+◌, ◌-◌, ◌*◌, ◌<◌, ◌≤◌, Bool, true, false, cond, List, length, sum_by, slice_index_or}
+use Rattle.std.specs.Prelude.{◌≡◌, ℕ, ◌+◌, ◌-◌, ◌*◌, ◌<◌, ◌≤◌, Bool, true, false, length, slice_index_or}
 use Rattle.rules.specs.Routine.{Routine}
 use Rattle.path.specs.declared.place.Place.{Place}
 use Rattle.path.specs.declared.place.Origin.{Origin}
@@ -17,15 +17,10 @@ place_at h e = (entry_at h e).place
 abbrev pub seen_at : Hunt → ℕ → ℕ → Bool
 seen_at h p k = slice_index_or h.seen (p * 24 + k) false
 
--- How many places have not been seen.
-abbrev pub unseen : List Bool → ℕ
-unseen xs = sum_by (λ b. cond b 0 1) xs
-
--- There is an entry for each place that was seen, and as many are seen as there are entries.
+-- There is an entry for each place that was seen.
 pub record Trailed (h : Hunt) : Type 0 where
   pub entries_long : length h.entries ≡ 3096
   pub seen_long : length h.seen ≡ 3096
-  pub rest : h.count + unseen h.seen ≡ 3096
   pub told : (p k : ℕ) → k < 24 → seen_at h p k ≡ true → (e : ℕ) × (e < h.count) × (place_at h e ≡ at_place p k)
 
 pub record NoneSeen (h : Hunt) : Type 0 where
@@ -34,7 +29,7 @@ pub record NoneSeen (h : Hunt) : Type 0 where
 
 -- A place was noted, if it had not been seen.
 pub record Noted (old new : Hunt) (a : Place) (next : ℕ) : Type 0 where
-  pub trailed : Trailed new
+  pub trailed : Trailed old → Trailed new
   pub more : old.count ≤ new.count
   pub one : new.count ≤ old.count + 1
   pub kept : (e : ℕ) → e < old.count → entry_at new e ≡ entry_at old e
@@ -44,7 +39,7 @@ pub record Noted (old new : Hunt) (a : Place) (next : ℕ) : Type 0 where
 
 -- Places that lead on to entry i were noted.
 pub record Extends (r : Routine) (old new : Hunt) (i : ℕ) : Type 0 where
-  pub trailed : Trailed new
+  pub trailed : Trailed old → Trailed new
   pub more : old.count ≤ new.count
   pub kept : (e : ℕ) → e < old.count → entry_at new e ≡ entry_at old e
   pub marked : (p k : ℕ) → seen_at old p k ≡ true → seen_at new p k ≡ true

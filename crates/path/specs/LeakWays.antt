@@ -1,13 +1,13 @@
 -- The way by which the start name of a leak reaches the operand.
-use Rattle.std.specs.Prelude.{◌≡◌, ℕ, cond, Some, None, Option, ◌==◌}
+use Rattle.std.specs.Prelude.{◌≡◌, ℕ, cond, Some, None, Ok, Err, Option, ◌==◌}
 use Rattle.path.specs.declared.place.Path.{Path}
 use Rattle.path.specs.Ways.{WayAnswer, at_place}
 use Rattle.rules.specs.declared.Node.{Node}
 use Rattle.rules.specs.declared.Node.TheVariants.{Constant, Move, Operate, Select, Read, Write, If, Else, EndIf, While, EndWhile}
 use Rattle.rules.specs.Routine.{Routine, node}
 use Rattle.clearance.specs.declared.leak.LeakSite.{LeakSite}
-use Rattle.clearance.specs.declared.outcome.Outcome.{Outcome}
-use Rattle.clearance.specs.declared.outcome.Outcome.TheVariants as outcome
+use Rattle.clearance.specs.declared.outcome.ClearFault.TheVariants as fault
+use Rattle.clearance.specs.Outcomes.{Outcome}
 
 -- The scalar that is operand w of a node, if that operand can be held to a bound.
 abbrev pub operand_of : Node → ℕ → Option ℕ
@@ -30,6 +30,6 @@ WayToOperand r s (Some k) x = WayAnswer r s.name (at_place s.node k) x
 
 -- Where there is no leak there is no way.
 abbrev pub LeakWay : Routine → Outcome → Option Path → Type 0
-LeakWay r outcome.Granted x = x ≡ None
-LeakWay r outcome.TableLength x = x ≡ None
-LeakWay r (outcome.Leak s) x = WayToOperand r s (operand_of (node r s.node) s.operand) x
+LeakWay r (Ok u) x = x ≡ None
+LeakWay r (Err fault.TableLength) x = x ≡ None
+LeakWay r (Err (fault.Leak s)) x = WayToOperand r s (operand_of (node r s.node) s.operand) x

@@ -1,3 +1,4 @@
+pub mod Seen
 pub mod Ways
 pub mod Hunts
 pub mod LeakWays

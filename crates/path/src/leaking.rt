@@ -6,7 +6,7 @@ ghost use Rattle.path.specs.LeakWays.{operand_of, LeakWay};
 
 use crate::place::Path;
 use crate::tracing::path_to;
-use clearance::{Examination, Outcome};
+use clearance::{ClearFault, Examination};
 use leakage::LeakageModel;
 use reach::node_at;
 use rules::Node;
@@ -16,8 +16,7 @@ fn operand_scalar(node: Node, operand: u32) -> Option<u32>
     ensures { result ≡ operand_of node operand }
 {
     match (node, operand) {
-        (Node::If { condition, .. }, 1) => Some(condition),
-        (Node::While { condition, .. }, 1) => Some(condition),
+        (Node::If { condition, .. } | Node::While { condition, .. }, 1) => Some(condition),
         (Node::Operate { left, .. }, 3) => Some(left),
         (Node::Operate { right, .. }, 4) => Some(right),
         (Node::Read { index, .. }, 3) => Some(index),
@@ -31,12 +30,10 @@ fn operand_scalar(node: Node, operand: u32) -> Option<u32>
 pub fn leak_path<M: LeakageModel>(exam: &Examination<M>) -> Option<Path>
     ensures { LeakWay (routine_of exam.now.routine.listing) exam.now.outcome result }
 {
-    let Outcome::Leak(site) = exam.outcome() else {
+    let Err(ClearFault::Leak(site)) = exam.outcome() else {
         return None;
     };
     let node = node_at(exam.routine(), site.node as usize);
-    match operand_scalar(node, site.operand) {
-        Some(scalar) => path_to(exam.routine(), site.name, site.node, scalar),
-        None => None,
-    }
+    let scalar = operand_scalar(node, site.operand)?;
+    path_to(exam.routine(), site.name, site.node, scalar)
 }

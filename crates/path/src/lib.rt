@@ -2,12 +2,14 @@
 #![tactic(auto)]
 
 mod hunt;
+mod hunting;
 mod leaking;
 mod place;
 mod steps;
 #[cfg(test)]
 mod tests;
 mod tracing;
+mod way;
 
 pub use leaking::leak_path;
 pub use place::{Origin, Path, Place};

@@ -5,7 +5,7 @@ ghost use Rattle.listing.specs.Forms.{routine_of};
 ghost use Rattle.path.specs.Ways.{WayAnswer, at_place};
 ghost use Rattle.path.specs.Hunts.{Falling, Followed};
 
-use crate::hunt::{Hunt, no_hunt, note, note_all};
+use crate::hunt::Hunt;
 use crate::place::{Origin, Path, Place};
 use crate::steps::origin_of;
 use listing::Routine;
@@ -21,6 +21,7 @@ fn follow(hunt: &Hunt, index: usize, origin: Origin) -> Path
     let mut places = [first; 3096];
     let mut count = 1;
     let mut at = index;
+    // Each entry names the one that it leads on to, so this is no range.
     while at > 0 {
         at = hunt.entries[at].next;
         places[count] = hunt.entries[at].place;
@@ -41,14 +42,15 @@ pub fn path_to(routine: &Routine, name: u32, point: u32, scalar: u32) -> Option<
     if point > counts.nodes || scalar >= counts.scalars {
         return None;
     }
-    let mut hunt = no_hunt();
-    note(&mut hunt, Place { point, scalar }, 0);
+    let mut hunt = Hunt::none();
+    hunt.note(Place { point, scalar }, 0);
     let mut index = 0;
+    // The entries that are noted in this loop are gone over too, so this is no range.
     while index < hunt.count {
         if let Some(origin) = origin_of(routine, name, hunt.entries[index].place) {
             return Some(follow(&hunt, index, origin));
         }
-        note_all(routine, &mut hunt, index);
+        hunt.note_all(routine, index);
         index += 1;
     }
     None

@@ -4,14 +4,13 @@ use Rattle.rules.specs.Run.{started, lines_of}
 use Rattle.rules.specs.Standing.{baseline}
 use Rattle.listing.specs.declared.faults.RoutineFault.{RoutineFault}
 use Rattle.listing.specs.declared.parts.Listing.{Listing}
-use Rattle.listing.specs.Faults.{refusal_of}
+use Rattle.listing.specs.Faults.{rule_number, refusal_of}
 use Rattle.listing.specs.Forms.{routine_of}
 use Rattle.levels.specs.declared.secrecy.Secrecy.{Secrecy}
 use Rattle.levels.specs.declared.secrecy.Secrecy.TheVariants.{Public}
 use Rattle.levels.specs.Secrecy.{secrecy_order}
-use Rattle.clearance.specs.declared.outcome.Outcome.{Outcome}
 use Rattle.clearance.specs.Examinations.{RightOutcome}
-use Rattle.clearance.specs.Outcomes.{is_granted}
+use Rattle.clearance.specs.Outcomes.{Outcome, is_granted}
 use Rattle.clearance.specs.Scenes.{Scene, scene, setting}
 use Rattle.verdict.specs.declared.slip.Slip.{Slip}
 use Rattle.verdict.specs.declared.slip.Slip.TheVariants.{Clear, Leak, Refused}
@@ -21,13 +20,13 @@ use Rattle.run.specs.Views.{of_memory, zeroed}
 -- 0 where the listing loads, and else the number of its refusal
 abbrev pub load_number : Result Listing RoutineFault → ℕ
 load_number (Ok t) = 0
-load_number (Err f) = (refusal_of f).number
+load_number (Err f) = rule_number (refusal_of f).rule
 
 -- 0, 11, or the number of the refusal
 abbrev pub slip_number : Slip → ℕ
 slip_number Clear = 0
 slip_number (Leak s) = 11
-slip_number (Refused r) = r.number
+slip_number (Refused r) = rule_number r.rule
 
 -- the number of the verdict on level digits and a listing
 abbrev pub ClearNumber : List ℕ → List ℕ → ℕ → Type 0

@@ -35,6 +35,7 @@ fn public_exam(routine: Routine) -> Examination<Baseline>
     ensures right { RightOutcome (setting (public_scene routine.listing)) result.outcome }
 {
     let counts = routine.listing().counts;
+    // Nothing is allocated: no listing has more than 32 names.
     let table = [Secrecy::Public; 32];
     let names = (counts.scalars + counts.arrays) as usize;
     examine(routine, Baseline, &table[0..names], Secrecy::Public)
@@ -44,6 +45,7 @@ fn public_exam(routine: Routine) -> Examination<Baseline>
 pub fn probe_advance(listing: &[u8], lines: &mut [LeakLine]) -> usize
     ensures { Probed (listing_read listing.now) (length lines.old) result }
 {
+    // The count is what the C function answers, 0 where nothing is run: this is its body, and probe_c gives it its C name.
     match load(listing) {
         Ok(routine) => steps_made(&public_exam(routine), lines),
         Err(_) => 0,

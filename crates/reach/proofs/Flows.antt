@@ -5,9 +5,9 @@ use Rattle.std.proofs.lemmas.Bool.{cases_eq, both_ways, eq-eqb, ne_eqb}
 use Rattle.levels.specs.declared.name_set.NameSet.{NameSet}
 use Rattle.rules.specs.declared.Node.{Node}
 use Rattle.levels.specs.Names.{Has, no_names}
-use Rattle.rules.specs.Routine.{sets}
+use Rattle.rules.specs.Routine.{target_of, sets}
 use Rattle.rules.specs.declared.Node.TheVariants.{Constant, Move, Operate, Select, Read, Write, If, Else, EndIf, While, EndWhile}
-use Rattle.reach.specs.Passing.{target_of, Flow, Inflow}
+use Rattle.reach.specs.Passing.{Flow, Inflow}
 
 module _ (xs : List NameSet) (t : ℕ) (v : NameSet) (nd : Node) (s name : ℕ) (long : t < length xs) (sets-is : (k : ℕ) → sets nd k ≡ eqb k t)
     (got : Has v name ↔ Inflow s nd (λ k. Has (get_or xs k no_names) name) name) where

@@ -1,8 +1,6 @@
 -- What is known of a loaded routine.
-use Rattle.std.proofs.Common.{◌≡◌, ℕ, ◌<◌, ◌≤◌, get_or, subst, arith}
-use Rattle.std.proofs.lemmas.List.{get_or-take, get_or_past, length-take-le}
-use Rattle.rules.specs.declared.Node.TheVariants.{Constant}
-use Rattle.rules.specs.declared.Region.{Region}
+use Rattle.std.proofs.Common.{◌≡◌, ℕ, ◌<◌, ◌≤◌, subst, arith}
+use Rattle.std.proofs.lemmas.List.{length-take-le}
 use Rattle.rules.specs.Routine.{WellFormed, Accepted, OperandsExist, Next, node, region, arrays, end}
 use Rattle.listing.specs.declared.routine.Routine.{Routine}
 use Rattle.listing.specs.Forms.{routine_of, WellFormedListing}
@@ -31,12 +29,6 @@ arrays_of x =
     length-take-le x.listing.counts.arrays x.listing.regions (omega (arith, F.few_arrays, F.all_regions))
 
 module _ (x : Routine) (p : ℕ) where
-  pub node_is : p < x.listing.counts.nodes → node (routine_of x.listing) p ≡ get_or x.listing.nodes p (Constant 0 0)
-  node_is h = get_or-take x.listing.counts.nodes x.listing.nodes p (Constant 0 0) h
-
-  pub no_node : x.listing.counts.nodes ≤ p → node (routine_of x.listing) p ≡ Constant 0 0
-  no_node h = get_or_past (routine_of x.listing).nodes p (Constant 0 0) (rw (end_of x) h)
-
   pub operands_of : p < x.listing.counts.nodes → OperandsExist x.listing.counts.scalars x.listing.counts.arrays (node (routine_of x.listing) p)
   operands_of h =
       subst (λ a. OperandsExist x.listing.counts.scalars a (node (routine_of x.listing) p)) (arrays_of x)
@@ -46,14 +38,5 @@ module _ (x : Routine) (p : ℕ) where
   next_of h q n = subst (λ e. q ≤ e) (end_of x) ((formed_of x).partners p q (rw (end_of x) h) n)
 
 module _ (x : Routine) (t : ℕ) where
-  abbrev no_cells : Region
-  no_cells = record { start = 0; length = 0 }
-
-  pub region_is : t < x.listing.counts.arrays → region (routine_of x.listing) t ≡ get_or x.listing.regions t no_cells
-  region_is h = get_or-take x.listing.counts.arrays x.listing.regions t no_cells h
-
-  pub no_region : x.listing.counts.arrays ≤ t → region (routine_of x.listing) t ≡ no_cells
-  no_region h = get_or_past (routine_of x.listing).regions t no_cells (rw (arrays_of x) h)
-
   pub accepted_of : t < x.listing.counts.arrays → Accepted (region (routine_of x.listing) t).start (region (routine_of x.listing) t).length
   accepted_of h = (formed_of x).accepted t (rw (arrays_of x) h)

@@ -8,7 +8,7 @@ ghost use Rattle.reach.specs.Work.{Started};
 
 use crate::reading::counts_of;
 use crate::table::{ReachTable, Row};
-use crate::work::{Work, sweep};
+use crate::work::Work;
 use levels::NameSet;
 use listing::Routine;
 
@@ -25,6 +25,7 @@ fn start_row(scalars: usize) -> Row
     ensures { (k name : ℕ) → (Has (at result k) name ↔ ((k ≡ name) × (name < scalars))) }
 {
     let mut row = empty_row();
+    // Written by index: nothing is known of a row's sets once a part of it was lent out.
     for k in 0..scalars {
         row.sets[k] = NameSet::single(k);
     }
@@ -51,6 +52,6 @@ pub fn reach(routine: &Routine) -> ReachTable
 {
     let counts = counts_of(routine);
     let mut work = started(counts.scalars as usize);
-    while sweep(routine, &mut work) {}
+    while work.sweep(routine) {}
     work.table
 }

@@ -11,6 +11,7 @@ mod table;
 mod work;
 
 pub use filling::reach;
+pub use next::leads_to;
 pub use opens::{OpenNames, open_names};
 pub use reading::{counts_of, node_at, region_at};
 pub use table::ReachTable;

@@ -1,18 +1,19 @@
 //! The names that are open at each point.
 
-ghost use Rattle.std.specs.Prelude.{◌≡◌, ℕ, ◌+◌, ◌<◌, ◌≤◌, ◌↔◌, length};
+ghost use Rattle.std.specs.Prelude.{◌≡◌, ℕ, ◌+◌, ◌<◌, ◌≤◌, true, ◌↔◌, length};
 ghost use Rattle.levels.specs.Names.{Has, has};
-ghost use Rattle.reach.specs.Limits.{WithinLimits};
 ghost use Rattle.reach.specs.Table.{at};
-ghost use Rattle.reach.specs.Opens.{open_at, NoneOpen, OpensBy};
+ghost use Rattle.reach.specs.Opens.{open_at, NoneOpen, OpenBy, OpensBy};
 
 use crate::reading::counts_of;
-use crate::table::{ReachTable, Row, set_at};
+use crate::table::{ReachTable, Row};
 use levels::NameSet;
-use listing::{Counts, Routine};
+use listing::Routine;
+
+// Of the largest size: nothing is allocated.
 
 /// For each point the names that are open there: scalar k is name k, and array t is name s + t, where there are s scalars.
-#[derive(Clone, Copy)]
+#[derive(Clone, Copy, Debug, PartialEq, Eq)]
 pub struct OpenNames {
     at: [NameSet; 129],
 }
@@ -31,34 +32,32 @@ impl OpenNames {
     pub fn contains(&self, point: usize, name: usize) -> bool
         ensures { result ≡ has (open_at self.now point) name }
     {
-        set_at(&self.at, point).contains(name)
+        let names = self.at.get(point).copied();
+        names.unwrap_or(NameSet::empty()).contains(name)
     }
 }
 
-// The scalars that only heard names reach.
-fn open_scalars(scalars: usize, row: &Row, heard: NameSet) -> NameSet
-    requires { scalars ≤ 24 }
-    ensures { (x : ℕ) → (Has result x ↔ ((x < scalars) × ((name : ℕ) → Has (at row.now x) name → Has heard name))) }
+// Whether the name is open, by the row of a point.
+fn is_open(routine: &Routine, row: &Row, heard: NameSet, name: usize) -> bool
+    requires { name < routine.now.listing.counts.scalars + routine.now.listing.counts.arrays }
+    ensures { (result ≡ true) ↔ OpenBy routine.now.listing (λ m k. Has (at row.now k) m) heard name }
 {
-    let mut opens = NameSet::empty();
-    for k in 0..scalars {
-        if row.sets[k].is_subset(heard) {
-            opens = opens.union(NameSet::single(k));
-        }
+    if name < counts_of(routine).scalars as usize {
+        row.names(name).is_subset(heard)
+    } else {
+        heard.contains(name)
     }
-    opens
 }
 
-// The arrays that are heard.
-fn open_arrays(counts: Counts, heard: NameSet) -> NameSet
-    requires { WithinLimits counts }
-    ensures { (x : ℕ) → (Has result x ↔ ((counts.scalars ≤ x) × (x < counts.scalars + counts.arrays) × Has heard x)) }
+// The names that are open, by the row of a point.
+fn open_by(routine: &Routine, row: &Row, heard: NameSet) -> NameSet
+    ensures { (x : ℕ) → (Has result x ↔ OpenBy routine.now.listing (λ m k. Has (at row.now k) m) heard x) }
 {
-    let scalars = counts.scalars as usize;
+    let counts = counts_of(routine);
     let mut opens = NameSet::empty();
-    for t in 0..counts.arrays as usize {
-        let name = scalars + t;
-        if heard.contains(name) {
+    // A name is a number, that of its scalar or array; no slice is gone over.
+    for name in 0..(counts.scalars + counts.arrays) as usize {
+        if is_open(routine, row, heard, name) {
             opens = opens.union(NameSet::single(name));
         }
     }
@@ -70,11 +69,11 @@ pub fn open_names(routine: &Routine, table: &ReachTable, heard: NameSet) -> Open
     ensures { OpensBy routine.now.listing table.now heard result }
 {
     let counts = counts_of(routine);
-    let arrays = open_arrays(counts, heard);
+    let rows = &table.rows[..counts.nodes as usize + 1];
     let mut opens = OpenNames::none();
-    for point in 0..counts.nodes as usize + 1 {
-        let scalars = open_scalars(counts.scalars as usize, &table.rows[point], heard);
-        opens.at[point] = scalars.union(arrays);
+    // Written by index: nothing is known of sets that are written through a zip.
+    for (point, row) in rows.iter().enumerate() {
+        opens.at[point] = open_by(routine, row, heard);
     }
     opens
 }

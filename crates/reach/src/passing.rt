@@ -3,64 +3,46 @@
 ghost use Rattle.std.specs.Prelude.{◌≡◌, ℕ, true, ◌↔◌};
 ghost use Rattle.levels.specs.Names.{Has};
 ghost use Rattle.rules.specs.Routine.{sets, OperandsExist};
-ghost use Rattle.reach.specs.Limits.{WithinLimits};
-ghost use Rattle.reach.specs.Passing.{target_of, Inflow, Flow};
+ghost use Rattle.reach.specs.Passing.{Inflow, Flow};
 ghost use Rattle.reach.specs.Table.{at};
 
+use crate::reading::counts_of;
 use crate::table::Row;
 use levels::NameSet;
-use listing::Counts;
+use listing::Routine;
 use rules::Node;
 
-// The scalar that a node sets.
-fn target(node: Node) -> Option<u32>
-    ensures { result ≡ target_of node }
-{
-    match node {
-        Node::Constant { target, .. }
-        | Node::Move { target, .. }
-        | Node::Operate { target, .. }
-        | Node::Select { target, .. }
-        | Node::Read { target, .. } => Some(target),
-        _ => None,
-    }
-}
-
 // What reaches the scalars that the node reads, and the array that it reads.
-fn inflow(counts: Counts, node: Node, row: &Row) -> NameSet
-    requires { (WithinLimits counts) × (OperandsExist counts.scalars counts.arrays node) }
-    ensures { (d : ℕ) → sets node d ≡ true → (name : ℕ) → (Has result name ↔ Inflow counts.scalars node (λ k. Has (at row.now k) name) name) }
+fn inflow(routine: &Routine, node: Node, row: &Row) -> NameSet
+    requires { OperandsExist routine.now.listing.counts.scalars routine.now.listing.counts.arrays node }
+    ensures { (d : ℕ) → sets node d ≡ true → (name : ℕ) → (Has result name ↔ Inflow routine.now.listing.counts.scalars node (λ k. Has (at row.now k) name) name) }
 {
+    let names = |scalar: u32| row.names(scalar as usize);
     match node {
-        Node::Move { source, .. } => row.sets[source as usize],
-        Node::Operate { left, right, .. } => {
-            row.sets[left as usize].union(row.sets[right as usize])
-        }
+        Node::Move { source, .. } => names(source),
+        Node::Operate { left, right, .. } => names(left).union(names(right)),
         Node::Select {
             condition,
             then,
             otherwise,
             ..
-        } => {
-            row.sets[condition as usize].union(row.sets[then as usize].union(
-                row.sets[otherwise as usize],
-            ))
-        }
+        } => names(condition).union(names(then)).union(names(otherwise)),
         Node::Read { array, index, .. } => {
-            row.sets[index as usize].union(NameSet::single((counts.scalars + array) as usize))
+            let name = counts_of(routine).scalars + array;
+            names(index).union(NameSet::single(name as usize))
         }
         _ => NameSet::empty(),
     }
 }
 
 // The row behind the node, where `row` stands before it.
-pub(crate) fn outgoing(counts: Counts, node: Node, row: Row) -> Row
-    requires { (WithinLimits counts) × (OperandsExist counts.scalars counts.arrays node) }
-    ensures { (name d : ℕ) → (Has (at result d) name ↔ Flow counts.scalars node (λ k. Has (at row k) name) name d) }
+pub(crate) fn outgoing(routine: &Routine, node: Node, row: &Row) -> Row
+    requires { OperandsExist routine.now.listing.counts.scalars routine.now.listing.counts.arrays node }
+    ensures { (name d : ℕ) → (Has (at result d) name ↔ Flow routine.now.listing.counts.scalars node (λ k. Has (at row.now k) name) name d) }
 {
-    let mut next = row;
-    if let Some(scalar) = target(node) {
-        next.sets[scalar as usize] = inflow(counts, node, &row);
+    let mut next = *row;
+    if let Some(scalar) = node.target() {
+        next.sets[scalar as usize] = inflow(routine, node, row);
     }
     next
 }

@@ -1,4 +1,5 @@
-//! The counts, nodes and regions of a routine.
+//! The counts, nodes and regions of a routine, with what they promise within this crate's limits: so these are functions here, and no
+//! methods of the routine, which is declared below.
 
 ghost use Rattle.std.specs.Prelude.{◌≡◌, ℕ, ◌<◌, ◌≤◌};
 ghost use Rattle.rules.specs.Routine.{node, region, end, Next, OperandsExist, Accepted};
@@ -24,14 +25,11 @@ pub fn node_at(routine: &Routine, point: usize) -> Node
     ensures next { point < routine.now.listing.counts.nodes → (q : ℕ) → Next result point q → q ≤ routine.now.listing.counts.nodes }
 {
     let listing = routine.listing();
-    if point < listing.counts.nodes as usize {
-        listing.nodes[point]
-    } else {
-        Node::Constant {
-            target: 0,
-            value: 0,
-        }
-    }
+    let nodes = &listing.nodes[..listing.counts.nodes as usize];
+    nodes.get(point).copied().unwrap_or(Node::Constant {
+        target: 0,
+        value: 0,
+    })
 }
 
 /// The region of the array; past the last array, a region of no cell.
@@ -40,12 +38,9 @@ pub fn region_at(routine: &Routine, array: usize) -> Region
     ensures accepted { array < routine.now.listing.counts.arrays → Accepted result.start result.length }
 {
     let listing = routine.listing();
-    if array < listing.counts.arrays as usize {
-        listing.regions[array]
-    } else {
-        Region {
-            start: 0,
-            length: 0,
-        }
-    }
+    let regions = &listing.regions[..listing.counts.arrays as usize];
+    regions.get(array).copied().unwrap_or(Region {
+        start: 0,
+        length: 0,
+    })
 }

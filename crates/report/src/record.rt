@@ -40,8 +40,8 @@ fn regions_text(heap: Global, regions: &[Region]) -> Result<String, AllocError>
         return Ok(out);
     }
     out.push_str("\narray  start  length  cells\n")?;
-    for number in 0..regions.len() {
-        let row = region_row(heap, number as u64, regions[number])?;
+    for (number, region) in regions.iter().enumerate() {
+        let row = region_row(heap, number as u64, *region)?;
         out.push_str(row.as_str())?;
     }
     Ok(out)
@@ -91,36 +91,19 @@ fn nodes_text(heap: Global, nodes: &[Node]) -> Result<String, AllocError>
     }
     out.push_str("\nnode\n")?;
     let mut depth = 0;
-    for number in 0..nodes.len() {
-        let row = node_row(heap, number as u64, depth, nodes[number])?;
+    for (number, node) in nodes.iter().enumerate() {
+        let row = node_row(heap, number as u64, depth, *node)?;
         out.push_str(row.as_str())?;
-        depth = depth_after(depth, nodes[number]);
+        depth = depth_after(depth, *node);
     }
     Ok(out)
 }
 
-/// The arrays that the listing counts.
-fn regions_of(listing: &Listing) -> &[Region]
-    ensures { result.now ≡ take listing.now.counts.arrays listing.now.regions }
+/// The first items, as many as are counted.
+fn front<T>(items: &[T], count: u32) -> &[T]
+    ensures { result.now ≡ take count items.now }
 {
-    let count = listing.counts.arrays as usize;
-    if count < 8 {
-        &listing.regions[0..count]
-    } else {
-        &listing.regions
-    }
-}
-
-/// The nodes that the listing counts.
-fn nodes_of(listing: &Listing) -> &[Node]
-    ensures { result.now ≡ take listing.now.counts.nodes listing.now.nodes }
-{
-    let count = listing.counts.nodes as usize;
-    if count < 128 {
-        &listing.nodes[0..count]
-    } else {
-        &listing.nodes
-    }
+    items.get(..count as usize).unwrap_or(items)
 }
 
 /// The record of a listing.
@@ -128,7 +111,7 @@ pub fn record_text(heap: Global, listing: &Listing) -> Result<String, AllocError
     ensures { IfOk result (λ s. string_bytes s ≡ record_text listing.now) }
 {
     let counts = counts_text(heap, listing.counts)?;
-    let regions = regions_text(heap, regions_of(listing))?;
-    let nodes = nodes_text(heap, nodes_of(listing))?;
+    let regions = regions_text(heap, front(&listing.regions, listing.counts.arrays))?;
+    let nodes = nodes_text(heap, front(&listing.nodes, listing.counts.nodes))?;
     format!(in heap; "{counts}{regions}{nodes}")
 }

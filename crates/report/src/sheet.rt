@@ -3,6 +3,7 @@
 ghost use Rattle.std.specs.Prelude.{◌≡◌, ◌++◌, length, IfOk, string_bytes};
 ghost use Rattle.std.specs.Str.{bytes_eq};
 ghost use Rattle.listing.specs.Texts.{listing_text};
+ghost use Rattle.report.specs.declared.sheet.NotShown.TheVariants.{NoMemory};
 ghost use Rattle.report.specs.Records.{record_text};
 ghost use Rattle.report.specs.Sheets.{back_text, listing_of, Shown};
 
@@ -14,22 +15,33 @@ use texts::refused::refusal_text;
 /// The most bytes that a listing has: a header, 8 arrays and 128 nodes.
 const MOST_BYTES: usize = 6987;
 
-/// What is shown of a listing.
-#[derive(Drop)]
-pub enum Sheet {
-    Loaded { text: String },
+/// Why there is no record of a listing.
+#[derive(Debug, Drop)]
+pub enum NotShown {
+    /// It is refused, and the text says why.
     Refused { text: String },
+    /// There is no memory left.
+    NoMemory,
+}
+
+impl From<AllocError> for NotShown {
+    ghost from_gives = { λ _ reason. reason ≡ NoMemory };
+
+    fn from(_error: AllocError) -> NotShown {
+        NotShown::NoMemory
+    }
 }
 
 /// Whether the routine, written as a listing, is these bytes.
 pub fn writes_back(routine: &Routine, bytes: &[u8]) -> bool
     ensures { result ≡ bytes_eq (listing_text (listing_of routine.now)) bytes.now }
 {
+    // A routine is written into memory that the caller has, room for the longest listing.
     let mut room = [0; MOST_BYTES];
-    match write(routine, &mut room) {
-        Ok(length) => &room[0..length] == bytes,
-        Err(_) => false,
-    }
+    let Ok(length) = write(routine, &mut room) else {
+        return false;
+    };
+    &room[0..length] == bytes
 }
 
 /// Says whether what was written back is what was read.
@@ -52,18 +64,15 @@ fn loaded_text(heap: Global, routine: &Routine, bytes: &[u8]) -> Result<String, 
     format!(in heap; "{record}{back}")
 }
 
-/// Loads the listing and shows it, or shows why it is refused.
-pub fn show(heap: Global, bytes: &[u8]) -> Result<Sheet, AllocError>
-    ensures { IfOk result (λ sheet. Shown bytes.now sheet) }
+/// Loads the listing and shows it, or says why it is refused.
+pub fn show(heap: Global, bytes: &[u8]) -> Result<String, NotShown>
+    ensures { Shown bytes.now result }
 {
     match load(bytes) {
-        Ok(routine) => {
-            let text = loaded_text(heap, &routine, bytes)?;
-            Ok(Sheet::Loaded { text })
-        }
+        Ok(routine) => Ok(loaded_text(heap, &routine, bytes)?),
         Err(fault) => {
-            let text = refusal_text(heap, bytes, fault.refusal())?;
-            Ok(Sheet::Refused { text })
+            let text = refusal_text(heap, bytes, fault.into())?;
+            Err(NotShown::Refused { text })
         }
     }
 }

@@ -2,11 +2,12 @@
 //! `theorems`.
 #![tactic(auto)]
 
+mod nodes;
 pub mod operators;
 pub mod theorems;
 
 /// What an operator node does to two values.
-#[derive(Drop, Clone, Copy)]
+#[derive(Clone, Copy, Debug, PartialEq, Eq)]
 pub enum Operator {
     Sum,
     Difference,
@@ -23,14 +24,14 @@ pub enum Operator {
 }
 
 /// The left or the right operand of an operator.
-#[derive(Drop, Clone, Copy)]
+#[derive(Clone, Copy, Debug, PartialEq, Eq)]
 pub enum Side {
     Left,
     Right,
 }
 
 /// One node of a routine. Scalars, arrays and other nodes are named by number; an `index` and a `value` to be written are scalars.
-#[derive(Drop, Clone, Copy)]
+#[derive(Clone, Copy, Debug, PartialEq, Eq)]
 pub enum Node {
     /// `target` becomes `value`, which is a number and no scalar.
     Constant {
@@ -93,7 +94,7 @@ pub enum Node {
 }
 
 /// The cells of an array: the first, and how many there are.
-#[derive(Drop, Clone, Copy)]
+#[derive(Clone, Copy, Debug, PartialEq, Eq)]
 pub struct Region {
     pub start: u32,
     pub length: u32,

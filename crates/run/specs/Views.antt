@@ -3,6 +3,8 @@ use Rattle.std.specs.Prelude.{replicate}
 use Rattle.rules.specs.Run.{Memory as RulesMemory, Line, Name, Refusal as RulesRefusal, no_array, no_element, no_scalar, shut}
 use Rattle.rules.specs.Run.Name.{Scalar, Element}
 use Rattle.listing.specs.declared.faults.Refusal.{Refusal}
+use Rattle.listing.specs.declared.faults.Rule.{Rule}
+use Rattle.listing.specs.declared.faults.Rule.TheVariants as rule
 use Rattle.listing.specs.Faults.{refused}
 use Rattle.run.specs.declared.memory.Memory.{Memory}
 use Rattle.run.specs.declared.memory.LeakLine.{LeakLine}
@@ -36,6 +38,13 @@ of_fault NoElement = no_element
 of_fault NoScalar = no_scalar
 of_fault Shut = shut
 
--- The number, line and field of each.
+-- The rule that each breaks.
+abbrev pub rule_of : RunFault → Rule
+rule_of NoArray = rule.Array
+rule_of NoElement = rule.Element
+rule_of NoScalar = rule.Scalar
+rule_of Shut = rule.Open
+
+-- The rule, line and field of each.
 abbrev pub refusal_of : RunFault → Refusal
-refusal_of f = refused (of_fault f).number (of_fault f).line (of_fault f).field
+refusal_of f = refused (rule_of f) (of_fault f).line (of_fault f).field

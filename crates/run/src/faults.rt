@@ -1,12 +1,13 @@
 //! Why a place is not fed or not told.
 
 ghost use Rattle.std.specs.Prelude.{◌≡◌};
-ghost use Rattle.run.specs.Views.{refusal_of};
+ghost use Rattle.listing.specs.Faults.{rule_number};
+ghost use Rattle.run.specs.Views.{of_fault, refusal_of};
 
-use listing::Refusal;
+use listing::{Refusal, Rule};
 
 /// Why feed or ask is refused.
-#[derive(Clone, Copy)]
+#[derive(Clone, Copy, Debug, PartialEq, Eq)]
 pub enum RunFault {
     /// The routine has no such array.
     NoArray,
@@ -18,21 +19,16 @@ pub enum RunFault {
     Shut,
 }
 
-impl RunFault {
-    /// The number of the rule that is broken.
-    pub fn refusal(&self) -> Refusal
-        ensures { result ≡ refusal_of self.now }
-    {
-        let number = match *self {
-            RunFault::NoArray => 12,
-            RunFault::NoElement => 13,
-            RunFault::NoScalar => 14,
-            RunFault::Shut => 15,
-        };
-        Refusal {
-            number,
-            line: 0,
-            field: 0,
+/// The rule that is broken. Its number is the one that the rules of a run give.
+impl From<RunFault> for Refusal {
+    ghost from_gives = { λ fault refusal. (refusal ≡ refusal_of fault) × (rule_number refusal.rule ≡ (of_fault fault).number) };
+
+    fn from(fault: RunFault) -> Refusal {
+        match fault {
+            RunFault::NoArray => Rule::Array.at(0, 0),
+            RunFault::NoElement => Rule::Element.at(0, 0),
+            RunFault::NoScalar => Rule::Scalar.at(0, 0),
+            RunFault::Shut => Rule::Open.at(0, 0),
         }
     }
 }

@@ -5,6 +5,7 @@ mod faults;
 mod memory;
 mod run;
 mod slots;
+mod step;
 mod steps;
 
 pub use faults::RunFault;

@@ -42,6 +42,7 @@ pub(crate) fn locate(routine: &Routine, place: Place) -> Result<Slot, RunFault>
     }
 }
 
+// A memory is lent as `&` where it is read and as `&mut` where it is written, so `read` and `write` each match on the slot.
 pub(crate) fn read(slot: Slot, memory: &Memory) -> u32
     requires { Inside slot }
     ensures { result ≡ held slot (of_memory memory.now) }

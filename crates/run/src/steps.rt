@@ -1,16 +1,16 @@
-//! One step of a routine.
+//! What a step of a routine does.
 
 ghost use Rattle.std.specs.Prelude.{◌≡◌, ℕ, ◌<◌, ◌≤◌, cond, ◌==◌};
-ghost use Rattle.rules.specs.declared.Node.TheVariants.{Read, Write};
-ghost use Rattle.rules.specs.Routine.{Accepted, Next, OperandsExist, region};
+ghost use Rattle.rules.specs.Routine.{Accepted, Next, OperandsExist, region, node as node_of};
 ghost use Rattle.rules.specs.Run.{result as given, counted, place, memory_after, point_after, mark};
 ghost use Rattle.listing.specs.Forms.{routine_of};
 ghost use Rattle.run.specs.Views.{of_memory};
 
 use crate::memory::Memory;
+use crate::step::Step;
 use leakage::LeakageModel;
 use listing::Routine;
-use reach::region_at;
+use reach::{node_at, region_at};
 use rules::{Node, Operator, Region};
 
 // What an operator gives on two values.
@@ -28,8 +28,8 @@ pub(crate) fn result_of(operator: Operator, a: u32, b: u32) -> u32
         Operator::RightShift => a >> (b % 32),
         Operator::Quotient => if b == 0 { 0 } else { a / b },
         Operator::Remainder => if b == 0 { a } else { a % b },
-        Operator::Less => if a < b { 1 } else { 0 },
-        Operator::Equal => if a == b { 1 } else { 0 },
+        Operator::Less => u32::from(a < b),
+        Operator::Equal => u32::from(a == b),
     }
 }
 
@@ -59,92 +59,6 @@ fn picked(condition: u32, then: u32, otherwise: u32) -> u32
     if condition == 0 { otherwise } else { then }
 }
 
-// The memory after a read.
-fn read_into(routine: &Routine, target: u32, array: u32, index: u32, memory: &mut Memory)
-    requires { OperandsExist 24 routine.now.listing.counts.arrays (Read target array index) }
-    ensures { of_memory memory.new ≡ memory_after (routine_of routine.now.listing) (Read target array index) (of_memory memory.old) }
-{
-    let cell = cell_of(routine, array, memory.scalars[index as usize]);
-    memory.scalars[target as usize] = memory.cells[cell];
-}
-
-// The memory after a write.
-fn write_from(routine: &Routine, array: u32, index: u32, value: u32, memory: &mut Memory)
-    requires { OperandsExist 24 routine.now.listing.counts.arrays (Write array index value) }
-    ensures { of_memory memory.new ≡ memory_after (routine_of routine.now.listing) (Write array index value) (of_memory memory.old) }
-{
-    let cell = cell_of(routine, array, memory.scalars[index as usize]);
-    memory.cells[cell] = memory.scalars[value as usize];
-}
-
-// The memory after a node.
-pub(crate) fn step_memory(routine: &Routine, node: Node, memory: &mut Memory)
-    requires { OperandsExist 24 routine.now.listing.counts.arrays node }
-    ensures { of_memory memory.new ≡ memory_after (routine_of routine.now.listing) node (of_memory memory.old) }
-{
-    let scalars = &mut memory.scalars;
-    match node {
-        Node::Constant { target, value } => scalars[target as usize] = value,
-        Node::Move { target, source } => {
-            scalars[target as usize] = scalars[source as usize];
-        }
-        Node::Operate {
-            target,
-            operator,
-            left,
-            right,
-        } => {
-            let value = result_of(operator, scalars[left as usize], scalars[right as usize]);
-            scalars[target as usize] = value;
-        }
-        Node::Select {
-            target,
-            condition,
-            then,
-            otherwise,
-        } => {
-            let chosen = picked(scalars[condition as usize], then, otherwise);
-            scalars[target as usize] = scalars[chosen as usize];
-        }
-        Node::Read {
-            target,
-            array,
-            index,
-        } => read_into(routine, target, array, index, memory),
-        Node::Write {
-            array,
-            index,
-            value,
-        } => write_from(routine, array, index, value, memory),
-        _ => {}
-    }
-}
-
-// The point after a node.
-pub(crate) fn step_point(node: Node, point: u32, memory: &Memory) -> u32
-    requires { (point < 128) × ((OperandsExist 24 8 node) × (((q : ℕ) → Next node point q → q ≤ 128))) }
-    ensures { result ≡ point_after node point (of_memory memory.now) }
-{
-    match node {
-        Node::If {
-            condition,
-            otherwise,
-        } => if memory.scalars[condition as usize] == 0 {
-            otherwise + 1
-        } else {
-            point + 1
-        },
-        Node::Else { end } => end,
-        Node::While { condition, end } => if memory.scalars[condition as usize] == 0 {
-            end + 1
-        } else {
-            point + 1
-        },
-        Node::EndWhile { head } => head,
-        _ => point + 1,
-    }
-}
-
 // The mark of an access, with the index that counts.
 pub(crate) fn access_mark_of<M: LeakageModel>(
     model: M,
@@ -159,40 +73,118 @@ pub(crate) fn access_mark_of<M: LeakageModel>(
     model.access_mark(region, counted_of(region, index))
 }
 
-// The mark of a node's leak line.
-pub(crate) fn mark_of<M: LeakageModel>(
-    model: M,
-    routine: &Routine,
-    node: Node,
-    memory: &Memory,
-) -> u32
-    requires { OperandsExist 24 routine.now.listing.counts.arrays node }
-    ensures { result ≡ mark (M.leakage model) (routine_of routine.now.listing) node (of_memory memory.now) }
-{
-    let scalars = &memory.scalars;
-    match node {
-        Node::Operate {
-            operator,
-            left,
-            right,
-            ..
-        } => model.operator_mark(operator, scalars[left as usize], scalars[right as usize]),
-        Node::Read { array, index, .. } => {
-            access_mark_of(model, routine, array, scalars[index as usize])
+impl<'a> Step<'a> {
+    // The step from the point. Its node is looked up here, once.
+    pub(crate) fn at(routine: &'a Routine, point: u32) -> Step<'a>
+        requires { point < routine.now.listing.counts.nodes }
+        ensures routine { result.routine.now ≡ routine.now }
+        ensures point { result.point ≡ point }
+    {
+        Step {
+            routine,
+            point,
+            node: node_at(routine, point as usize),
         }
-        Node::Write { array, index, .. } => {
-            access_mark_of(model, routine, array, scalars[index as usize])
+    }
+
+    // The node: what it names exists, and it leads to no point past the end.
+    fn node(&self) -> Node
+        ensures is { result ≡ node_of (routine_of self.now.routine.now.listing) self.now.point }
+        ensures operands { OperandsExist 24 self.now.routine.now.listing.counts.arrays result }
+        ensures next { (q : ℕ) → Next result self.now.point q → q ≤ self.now.routine.now.listing.counts.nodes }
+    {
+        self.node
+    }
+
+    // Changes the memory as the node does.
+    pub(crate) fn change(&self, memory: &mut Memory)
+        ensures { of_memory memory.new ≡ memory_after (routine_of self.now.routine.now.listing) (node_of (routine_of self.now.routine.now.listing) self.now.point) (of_memory memory.old) }
+    {
+        let routine = self.routine;
+        let scalars = &mut memory.scalars;
+        match self.node() {
+            Node::Constant { target, value } => scalars[target as usize] = value,
+            Node::Move { target, source } => {
+                scalars[target as usize] = scalars[source as usize];
+            }
+            Node::Operate {
+                target,
+                operator,
+                left,
+                right,
+            } => {
+                let value = result_of(operator, scalars[left as usize], scalars[right as usize]);
+                scalars[target as usize] = value;
+            }
+            Node::Select {
+                target,
+                condition,
+                then,
+                otherwise,
+            } => {
+                let chosen = picked(scalars[condition as usize], then, otherwise);
+                scalars[target as usize] = scalars[chosen as usize];
+            }
+            Node::Read {
+                target,
+                array,
+                index,
+            } => {
+                let cell = cell_of(routine, array, scalars[index as usize]);
+                scalars[target as usize] = memory.cells[cell];
+            }
+            Node::Write {
+                array,
+                index,
+                value,
+            } => {
+                let cell = cell_of(routine, array, scalars[index as usize]);
+                memory.cells[cell] = scalars[value as usize];
+            }
+            _ => {}
         }
-        Node::If { condition, .. } => if scalars[condition as usize] == 0 {
-            0
-        } else {
-            1
-        },
-        Node::While { condition, .. } => if scalars[condition as usize] == 0 {
-            0
-        } else {
-            1
-        },
-        _ => 0,
+    }
+
+    // The point after the node.
+    pub(crate) fn next(&self, memory: &Memory) -> u32
+        ensures is { result ≡ point_after (node_of (routine_of self.now.routine.now.listing) self.now.point) self.now.point (of_memory memory.now) }
+        ensures within { result ≤ self.now.routine.now.listing.counts.nodes }
+    {
+        let point = self.point;
+        match self.node() {
+            Node::If {
+                condition,
+                otherwise: end,
+            }
+            | Node::While { condition, end } => if memory.scalars[condition as usize] == 0 {
+                end + 1
+            } else {
+                point + 1
+            },
+            Node::Else { end: next } | Node::EndWhile { head: next } => next,
+            _ => point + 1,
+        }
+    }
+
+    // The mark of a node's leak line.
+    pub(crate) fn mark<M: LeakageModel>(&self, model: M, memory: &Memory) -> u32
+        ensures { result ≡ mark (M.leakage model) (routine_of self.now.routine.now.listing) (node_of (routine_of self.now.routine.now.listing) self.now.point) (of_memory memory.now) }
+    {
+        let scalars = &memory.scalars;
+        match self.node() {
+            Node::Operate {
+                operator,
+                left,
+                right,
+                ..
+            } => model.operator_mark(operator, scalars[left as usize], scalars[right as usize]),
+            Node::Read { array, index, .. } | Node::Write { array, index, .. } => {
+                access_mark_of(model, self.routine, array, scalars[index as usize])
+            }
+            Node::If { condition, .. } | Node::While { condition, .. } => {
+                u32::from(scalars[condition as usize] != 0)
+            }
+            _ => 0,
+        }
     }
 }

@@ -1,18 +1,14 @@
 -- Tables of levels, as a word of the call says them.
-use Rattle.std.specs.Prelude.{ℕ, ◌+◌, ◌-◌, ◌*◌, cond, List, [], ◌∷◌, Some, None, Option, ◌==◌, nat_lt}
+use Rattle.std.specs.Prelude.{ℕ, ◌+◌, ◌-◌, ◌*◌, cond, List, [], ◌∷◌, Some, None, codes, Option, ◌==◌, nat_lt}
 use Rattle.levels.specs.declared.owners.Owners.{Owners}
 use Rattle.levels.specs.declared.secrecy.Secrecy.{Secrecy}
-use Rattle.levels.specs.declared.secrecy.Secrecy.TheVariants.{Public, Secret}
+use Rattle.levels.specs.Secrecy.{secrecy_of}
 
 -- an item before a list, if both are there
 abbrev pub put_first : {A : Type 0} → Option A → Option (List A) → Option (List A)
 put_first None l = None
 put_first (Some a) None = None
 put_first (Some a) (Some l) = Some (a ∷ l)
-
--- 0 is public, 1 is secret
-abbrev pub secrecy_of : ℕ → Option Secrecy
-secrecy_of b = cond (b == 48) (Some Public) (cond (b == 49) (Some Secret) None)
 
 abbrev pub two_levels_of : List ℕ → Option (List Secrecy)
 two_levels_of [] = Some []
@@ -47,3 +43,10 @@ owner_codes_of (b ∷ bs) = codes_after None (b ∷ bs)
 abbrev pub codes_of : List Owners → List ℕ
 codes_of [] = []
 codes_of (o ∷ os) = o.set ∷ codes_of os
+
+-- what a word with a table has, in words
+abbrev pub secrecy_wanted : List ℕ
+secrecy_wanted = codes "digits 0 (public) and 1 (secret)"
+
+abbrev pub owners_wanted : List ℕ
+owners_wanted = codes "codes from 0 to 65535, with commas between them"

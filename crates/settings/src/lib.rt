@@ -6,3 +6,6 @@ pub mod named;
 pub mod owner_names;
 pub mod reading;
 pub mod secrecy_names;
+pub mod tables;
+#[cfg(test)]
+mod tests;

@@ -1,33 +1,34 @@
 //! The standing models, chosen when the program runs.
 
-ghost use Rattle.std.specs.Prelude.{◌≡◌};
-ghost use Rattle.settings.specs.Models.{base_leakage, layered, model_named, base_words, layer_words};
-ghost use Rattle.std.proofs.Common.{rules};
+ghost use Rattle.std.specs.Prelude.{◌≡◌, Some, None, MatchResult};
+ghost use Rattle.settings.specs.Models.{base_leakage, layered, model_named, base_words, layer_words, model_words};
 ghost use Rattle.settings.specs.LayeredModelLemmas.{base_honest, layered_honest};
 
 use leakage::{Baseline, CacheLine, LeakageModel, ProgramCounter, TimeVariable};
 use rules::{Operator, Region, Side};
+use std::fmt;
+use std::str::FromStr;
 
 /// One of the standing models.
-#[derive(Clone, Copy)]
+#[derive(Clone, Copy, Debug, PartialEq, Eq)]
 pub enum Base {
     Counter,
     Cells,
-    Lines16,
-    Lines8,
+    Lines(CacheLine),
 }
+
+// The model is chosen when the program runs, so each question is passed on to the one that was chosen.
 
 impl LeakageModel for Base {
     ghost leakage = { base_leakage };
 
-    ghost honest = { Prim.search rules };
+    ghost honest = { base_honest };
 
     fn watches_operand(self, operator: Operator, side: Side) -> bool {
         match self {
             Base::Counter => ProgramCounter.watches_operand(operator, side),
             Base::Cells => Baseline.watches_operand(operator, side),
-            Base::Lines16 => CacheLine::Sixteen.watches_operand(operator, side),
-            Base::Lines8 => CacheLine::Eight.watches_operand(operator, side),
+            Base::Lines(line) => line.watches_operand(operator, side),
         }
     }
 
@@ -35,8 +36,7 @@ impl LeakageModel for Base {
         match self {
             Base::Counter => ProgramCounter.operator_mark(operator, left, right),
             Base::Cells => Baseline.operator_mark(operator, left, right),
-            Base::Lines16 => CacheLine::Sixteen.operator_mark(operator, left, right),
-            Base::Lines8 => CacheLine::Eight.operator_mark(operator, left, right),
+            Base::Lines(line) => line.operator_mark(operator, left, right),
         }
     }
 
@@ -44,8 +44,7 @@ impl LeakageModel for Base {
         match self {
             Base::Counter => ProgramCounter.watches_index(region),
             Base::Cells => Baseline.watches_index(region),
-            Base::Lines16 => CacheLine::Sixteen.watches_index(region),
-            Base::Lines8 => CacheLine::Eight.watches_index(region),
+            Base::Lines(line) => line.watches_index(region),
         }
     }
 
@@ -53,14 +52,15 @@ impl LeakageModel for Base {
         match self {
             Base::Counter => ProgramCounter.access_mark(region, index),
             Base::Cells => Baseline.access_mark(region, index),
-            Base::Lines16 => CacheLine::Sixteen.access_mark(region, index),
-            Base::Lines8 => CacheLine::Eight.access_mark(region, index),
+            Base::Lines(line) => line.access_mark(region, index),
         }
     }
 }
 
+// Base and layer are chosen apart, each with each: the flag does not say whether there is a base.
+
 /// A standing model, with or without the time-variable layer over it.
-#[derive(Clone, Copy)]
+#[derive(Clone, Copy, Debug, PartialEq, Eq)]
 pub struct Layered {
     pub base: Base,
     pub timed: bool,
@@ -96,25 +96,32 @@ impl LeakageModel for Layered {
     }
 }
 
-impl Layered {
-    /// The model that the word names.
-    pub fn named(word: &str) -> Option<Layered>
-        ensures { result ≡ model_named word.now }
-    {
+/// A word that names no model.
+#[derive(Clone, Copy, Debug, PartialEq, Eq)]
+pub struct UnknownModel;
+
+impl FromStr for Layered {
+    type Err = UnknownModel;
+
+    ghost from_str_gives = { λ word r. MatchResult r (λ model. model_named word ≡ Some model) (λ _. model_named word ≡ None) };
+
+    fn from_str(word: &str) -> Result<Layered, UnknownModel> {
         let (base, timed) = match word {
             "pc" => (Base::Counter, false),
             "baseline" => (Base::Cells, false),
-            "line16" => (Base::Lines16, false),
-            "line8" => (Base::Lines8, false),
+            "line16" => (Base::Lines(CacheLine::Sixteen), false),
+            "line8" => (Base::Lines(CacheLine::Eight), false),
             "tv+pc" => (Base::Counter, true),
             "tv+baseline" => (Base::Cells, true),
-            "tv+line16" => (Base::Lines16, true),
-            "tv+line8" => (Base::Lines8, true),
-            _ => return None,
+            "tv+line16" => (Base::Lines(CacheLine::Sixteen), true),
+            "tv+line8" => (Base::Lines(CacheLine::Eight), true),
+            _ => return Err(UnknownModel),
         };
-        Some(Layered { base, timed })
+        Ok(Layered { base, timed })
     }
+}
 
+impl Layered {
     /// What the standing model hears.
     pub fn base_words(self) -> &'static str
         ensures { result.now ≡ base_words self.base }
@@ -123,10 +130,10 @@ impl Layered {
             Base::Counter => "program counter: which way each if and while goes",
             Base::Cells =>
                 "baseline: which way each if and while goes, and the cell of each access",
-            Base::Lines16 => {
+            Base::Lines(CacheLine::Sixteen) => {
                 "cache line of 16 cells: which way each if and while goes, and the line of each access"
             }
-            Base::Lines8 => {
+            Base::Lines(CacheLine::Eight) => {
                 "cache line of 8 cells: which way each if and while goes, and the line of each access"
             }
         }
@@ -141,5 +148,15 @@ impl Layered {
         } else {
             ""
         }
+    }
+}
+
+/// What the standing model hears, and what the layer hears besides.
+impl fmt::Display for Layered {
+    ghost output = { λ model. Some (model_words model) };
+
+    fn fmt<W: fmt::Write>(&self, f: &mut fmt::Formatter<W>) -> fmt::Result {
+        f.write_str(self.base_words())?;
+        f.write_str(self.layer_words())
     }
 }

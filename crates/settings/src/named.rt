@@ -5,6 +5,8 @@ ghost use Rattle.std.specs.Prelude.{◌≡◌, ℕ, List, IfOk, string_bytes};
 use levels::Level;
 use std::alloc::{AllocError, Global};
 
+// The types of levels are of a crate that has no texts, so a level is named by a trait here, and not by Display.
+
 /// A level with a name that a record shows.
 pub trait NamedLevel: Level {
     /// The name.

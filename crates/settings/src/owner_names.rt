@@ -21,6 +21,7 @@ fn owner_numbers(heap: Global, set: u16) -> Result<String, AllocError>
     let mut out = String::new(heap);
     let mut left = set;
     let mut first = true;
+    // Each turn halves what is left of the set, so that its lowest bit is this owner's; only the first number has no comma before it.
     for owner in 0..16u64 {
         if left % 2 == 1 {
             let before = separator(first);

@@ -2,21 +2,10 @@
 
 ghost use Rattle.std.specs.Prelude.{◌≡◌, IfOk, vec_items};
 ghost use Rattle.std.specs.Option.{option_map};
-ghost use Rattle.settings.specs.Tables.{secrecy_of, two_levels_of, more_digits, owner_codes_of, codes_of};
+ghost use Rattle.settings.specs.Tables.{two_levels_of, more_digits, owner_codes_of, codes_of};
 
 use levels::{Owners, Secrecy};
 use std::alloc::{AllocError, Global};
-
-/// The level of a digit.
-fn secrecy_of(byte: u8) -> Option<Secrecy>
-    ensures { result ≡ secrecy_of byte }
-{
-    match byte {
-        b'0' => Some(Secrecy::Public),
-        b'1' => Some(Secrecy::Secret),
-        _ => None,
-    }
-}
 
 /// The levels of a row of digits, 0 public and 1 secret; none where another byte is among them.
 pub fn two_levels(heap: Global, text: &[u8]) -> Result<Option<Vec<Secrecy>>, AllocError>
@@ -24,10 +13,10 @@ pub fn two_levels(heap: Global, text: &[u8]) -> Result<Option<Vec<Secrecy>>, All
 {
     let mut levels = Vec::new(heap);
     for byte in text {
-        match secrecy_of(*byte) {
-            Some(level) => levels.push(level)?,
-            None => return Ok(None),
-        }
+        let Ok(level) = Secrecy::try_from(*byte) else {
+            return Ok(None);
+        };
+        levels.push(level)?;
     }
     Ok(Some(levels))
 }
@@ -36,16 +25,14 @@ pub fn two_levels(heap: Global, text: &[u8]) -> Result<Option<Vec<Secrecy>>, All
 fn more_digits(code: Option<u16>, byte: u8) -> Option<u16>
     ensures { result ≡ more_digits code byte }
 {
-    if byte < b'0' || byte > b'9' {
+    if !byte.is_ascii_digit() {
         return None;
     }
-    let front = u32::from(code.unwrap_or(0));
-    let whole = front * 10 + u32::from(byte - b'0');
-    if whole > 65535 {
-        return None;
-    }
-    Some(whole as u16)
+    let front = code.unwrap_or(0).checked_mul(10)?;
+    front.checked_add(u16::from(byte - b'0'))
 }
+
+// Byte by byte, as the definition reads: a comma ends a code, and a code of no digit is none.
 
 /// The sets of a row of codes with commas between them; none where one is no code.
 pub fn owner_sets(heap: Global, text: &[u8]) -> Result<Option<Vec<Owners>>, AllocError>
@@ -64,10 +51,10 @@ pub fn owner_sets(heap: Global, text: &[u8]) -> Result<Option<Vec<Owners>>, Allo
             sets.push(Owners { set })?;
             code = None;
         } else {
-            code = more_digits(code, *byte);
-            if code.is_none() {
+            let Some(longer) = more_digits(code, *byte) else {
                 return Ok(None);
-            }
+            };
+            code = Some(longer);
         }
     }
     let Some(set) = code else {

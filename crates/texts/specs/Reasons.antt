@@ -1,6 +1,8 @@
 -- Why a listing was refused, in one sentence for each rule and field.
 use Rattle.std.specs.Prelude.{ℕ, cond, List, codes, ◌==◌}
 use Rattle.listing.specs.declared.faults.Refusal.{Refusal}
+use Rattle.listing.specs.declared.faults.Rule.{Rule}
+use Rattle.listing.specs.declared.faults.Rule.TheVariants as rule
 use Rattle.texts.specs.declared.sentence.Reason.{Reason}
 use Rattle.texts.specs.declared.sentence.Reason.TheVariants.{NoWholeLines, NumberColumn, LetterColumn, FirstColumn, SecondColumn, ThirdColumn, FourthColumn, NoNewline, NumberNotDue, LetterNotDue, ManyScalars, ManyArrays, ManyNodes, OtherLines, RegionStart, RegionLength, NoFirst, NoSecond, NoThird, NoFourth, LeftOpen, WrongPart, WrongHead, TooDeep, Other}
 
@@ -34,18 +36,28 @@ name_reason f = cond (f == 2) NoFirst (cond (f == 3) NoSecond (cond (f == 4) NoT
 abbrev pub block_reason : ℕ → Reason
 block_reason f = cond (f == 0) LeftOpen (cond (f == 1) WrongPart WrongHead)
 
--- by the number of the rule that is broken
+-- by the rule that is broken, at field f
+abbrev pub by_rule : Rule → ℕ → Reason
+by_rule rule.Shape f = NoWholeLines
+by_rule rule.Column f = column_reason f
+by_rule rule.Place f = place_reason f
+by_rule rule.Count f = count_reason f
+by_rule rule.Length f = OtherLines
+by_rule rule.Region f = region_reason f
+by_rule rule.Name f = name_reason f
+by_rule rule.Block f = block_reason f
+by_rule rule.Depth f = TooDeep
+by_rule rule.TableLength f = Other
+by_rule rule.Clearance f = Other
+by_rule rule.Array f = Other
+by_rule rule.Element f = Other
+by_rule rule.Scalar f = Other
+by_rule rule.Open f = Other
+by_rule rule.Room f = Other
+by_rule rule.Digit f = Other
+
 abbrev pub reason_of : Refusal → Reason
-reason_of r =
-    cond (r.number == 1) NoWholeLines
-    (cond (r.number == 2) (column_reason r.field)
-    (cond (r.number == 3) (place_reason r.field)
-    (cond (r.number == 4) (count_reason r.field)
-    (cond (r.number == 5) OtherLines
-    (cond (r.number == 6) (region_reason r.field)
-    (cond (r.number == 7) (name_reason r.field)
-    (cond (r.number == 8) (block_reason r.field)
-    (cond (r.number == 9) TooDeep Other))))))))
+reason_of r = by_rule r.rule r.field
 
 abbrev pub reason_sentence : Reason → List ℕ
 reason_sentence NoWholeLines = codes "The listing is empty, or it is not made of whole lines of 51 bytes."

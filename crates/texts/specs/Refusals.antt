@@ -2,6 +2,7 @@
 use Rattle.std.specs.Prelude.{ℕ, ◌*◌, cond, List, [], ◌∷◌, ◌++◌, length, codes, decimal, ◌==◌, nat_lt}
 use Rattle.lines.specs.Lines.{part}
 use Rattle.listing.specs.declared.faults.Refusal.{Refusal}
+use Rattle.listing.specs.Faults.{rule_number}
 use Rattle.texts.specs.Escapes.{escaped_text}
 use Rattle.texts.specs.Layouts.{times}
 use Rattle.texts.specs.Reasons.{reason_of, reason_sentence}
@@ -28,4 +29,4 @@ line_shown (b ∷ bs) f = 10 ∷ (escaped_text (b ∷ bs) ++ (10 ∷ (marker (b 
 
 abbrev pub refusal_text : List ℕ → Refusal → List ℕ
 refusal_text s r =
-    codes "refusal " ++ (decimal r.number ++ (codes ", line " ++ (decimal r.line ++ (codes ", field " ++ (decimal r.field ++ (10 ∷ (reason_sentence (reason_of r) ++ (10 ∷ line_shown (part (51 * r.line) 51 s) r.field))))))))
+    codes "refusal " ++ (decimal (rule_number r.rule) ++ (codes ", line " ++ (decimal r.line ++ (codes ", field " ++ (decimal r.field ++ (10 ∷ (reason_sentence (reason_of r) ++ (10 ∷ line_shown (part (51 * r.line) 51 s) r.field))))))))

@@ -31,13 +31,6 @@ pub fn right(heap: Global, width: usize, value: u64) -> Result<String, AllocErro
 pub fn part_of(bytes: &[u8], start: usize, width: usize) -> &[u8]
     ensures { result.now ≡ part start width bytes.now }
 {
-    let end = bytes.len();
-    if start >= end {
-        return &bytes[0..0];
-    }
-    if width < end - start {
-        &bytes[start..start + width]
-    } else {
-        &bytes[start..end]
-    }
+    let rest = &bytes[start.min(bytes.len())..];
+    &rest[..width.min(rest.len())]
 }

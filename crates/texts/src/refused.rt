@@ -9,6 +9,8 @@ use crate::sentence::Reason;
 use listing::Refusal;
 use std::alloc::{AllocError, Global};
 
+// A field is a position, counted from 0: the number, the letter, four operands and the newline.
+
 /// How many columns stand before the field.
 fn field_start(field: u32) -> usize
     ensures { result ≡ field_start field }
@@ -65,10 +67,10 @@ pub fn line_shown(heap: Global, line: &[u8], field: u32) -> Result<String, Alloc
 pub fn refusal_text(heap: Global, bytes: &[u8], refusal: Refusal) -> Result<String, AllocError>
     ensures { IfOk result (λ s. string_bytes s ≡ refusal_text bytes.now refusal) }
 {
-    let number = refusal.number;
+    let number = u32::from(refusal.rule);
     let line = refusal.line;
     let field = refusal.field;
-    let reason = Reason::of(refusal).sentence();
+    let reason = Reason::from(refusal);
     let shown = line_shown(heap, part_of(bytes, 51 * line as usize, 51), field)?;
     format!(in heap; "refusal {number}, line {line}, field {field}\n{reason}\n{shown}")
 }

@@ -1,12 +1,13 @@
 //! Why a listing was refused, in one sentence for each rule and field.
 
-ghost use Rattle.std.specs.Prelude.{◌≡◌};
+ghost use Rattle.std.specs.Prelude.{◌≡◌, Some};
 ghost use Rattle.texts.specs.Reasons.{column_reason, region_reason, name_reason, block_reason, count_reason, place_reason, reason_of, reason_sentence};
 
-use listing::Refusal;
+use listing::{Refusal, Rule};
+use std::fmt;
 
 /// What is wrong with a listing.
-#[derive(Clone, Copy)]
+#[derive(Clone, Copy, Debug, PartialEq, Eq)]
 pub enum Reason {
     NoWholeLines,
     NumberColumn,
@@ -34,6 +35,8 @@ pub enum Reason {
     TooDeep,
     Other,
 }
+
+// A field is the place of a column in its line, as an operand is of a node: a position, and no kind.
 
 /// A column that breaks its rule.
 fn column_reason(field: u32) -> Reason
@@ -104,25 +107,27 @@ fn block_reason(field: u32) -> Reason
     }
 }
 
-impl Reason {
-    /// The reason for a refusal, by the number of the rule and the field.
-    pub fn of(refusal: Refusal) -> Reason
-        ensures { result ≡ reason_of refusal }
-    {
-        match refusal.number {
-            1 => Reason::NoWholeLines,
-            2 => column_reason(refusal.field),
-            3 => place_reason(refusal.field),
-            4 => count_reason(refusal.field),
-            5 => Reason::OtherLines,
-            6 => region_reason(refusal.field),
-            7 => name_reason(refusal.field),
-            8 => block_reason(refusal.field),
-            9 => Reason::TooDeep,
+/// The reason for a refusal, by the rule that is broken and the field.
+impl From<Refusal> for Reason {
+    ghost from_gives = { λ refusal reason. reason ≡ reason_of refusal };
+
+    fn from(refusal: Refusal) -> Reason {
+        match refusal.rule {
+            Rule::Shape => Reason::NoWholeLines,
+            Rule::Column => column_reason(refusal.field),
+            Rule::Place => place_reason(refusal.field),
+            Rule::Count => count_reason(refusal.field),
+            Rule::Length => Reason::OtherLines,
+            Rule::Region => region_reason(refusal.field),
+            Rule::Name => name_reason(refusal.field),
+            Rule::Block => block_reason(refusal.field),
+            Rule::Depth => Reason::TooDeep,
             _ => Reason::Other,
         }
     }
+}
 
+impl Reason {
     /// The reason as a sentence.
     pub fn sentence(self) -> &'static str
         ensures { result.now ≡ reason_sentence self }
@@ -170,5 +175,13 @@ impl Reason {
                 "This if or while would be the 17th open at once; at most 16 may be.",
             Reason::Other => "The listing is refused.",
         }
+    }
+}
+
+impl fmt::Display for Reason {
+    ghost output = { λ reason. Some (reason_sentence reason) };
+
+    fn fmt<W: fmt::Write>(&self, f: &mut fmt::Formatter<W>) -> fmt::Result {
+        f.write_str(self.sentence())
     }
 }

@@ -25,6 +25,8 @@ pub fn letter(node: Node) -> &'static str
     }
 }
 
+// Operators are of a crate that has no texts, so no Display of them stands here.
+
 /// The sign of the operator, or its name.
 pub fn sign(operator: Operator) -> &'static str
     ensures { result.now ≡ operator_sign operator }

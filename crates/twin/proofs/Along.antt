@@ -1,5 +1,5 @@
 -- What performing a list of calls has done after i of them.
-use Rattle.std.proofs.Common.{◌≡◌, ℕ, ◌+◌, ◌-◌, ◌<◌, ◌≤◌, cond, eqb, List, [], ◌∷◌, ◌++◌, length, get_or, take, drop, set, sym, refl, ap, ◌∙◌, subst, append_assoc, arith, length-append, length-drop, length-set, take-append-drop}
+use Rattle.std.proofs.Common.{◌≡◌, ℕ, ◌+◌, ◌-◌, ◌<◌, ◌≤◌, cond, eqb, List, [], ◌∷◌, ◌++◌, length, get_or, take, drop, set, Ok, Err, sym, refl, ap, ◌∙◌, subst, append_assoc, arith, length-append, length-drop, length-set, take-append-drop}
 use Rattle.std.proofs.lemmas.List.{take_more_set, drop-set-lt, drop_all, drop-drop, drop_more, append-nil, length-take-le}
 use Rattle.std.proofs.lemmas.Slice.{take-put_mid, drop-put_mid}
 use borrow.Rule.Slice.PartMut.{put_mid}
@@ -12,28 +12,27 @@ use Rattle.run.specs.declared.faults.RunFault.{RunFault}
 use Rattle.run.specs.declared.faults.RunFault.TheVariants.{NoArray, NoElement, NoScalar, Shut}
 use Rattle.twin.specs.declared.call.Call.{Call}
 use Rattle.twin.specs.declared.call.Call.TheVariants.{Advance}
-use Rattle.twin.specs.declared.call.Answer.{Answer}
-use Rattle.twin.specs.declared.call.Answer.TheVariants.{Stepped, Fed, Asked, Refused}
-use Rattle.twin.specs.Logs.{of_call, told, lines_in, overwritten, laid, last_state, places, all_places}
+use Rattle.twin.specs.declared.call.Reply.TheVariants.{Stepped, Fed, Asked}
+use Rattle.twin.specs.Logs.{Answer, of_call, told, lines_in, overwritten, laid, last_state, places, all_places}
 
 -- The code's answer that an answer of the rules is.
 abbrev pub fault_from : ℕ → RunFault
 fault_from n = cond (eqb n 12) NoArray (cond (eqb n 13) NoElement (cond (eqb n 14) NoScalar Shut))
 
 abbrev pub said_as : RulesAnswer → Answer
-said_as (Advanced n e ls) = Stepped (record { count = n; at_end = e })
-said_as Granted = Fed
-said_as (Told v) = Asked v
-said_as (RefusedSo f) = Refused (fault_from f.number)
+said_as (Advanced n e ls) = Ok (Stepped (record { count = n; at_end = e }))
+said_as Granted = Ok Fed
+said_as (Told v) = Ok (Asked v)
+said_as (RefusedSo f) = Err (fault_from f.number)
 
 pub said_told : (a : Answer) (xs : List LeakLine) → said_as (told a xs) ≡ a
-said_told (Stepped a) xs = refl
-said_told Fed xs = refl
-said_told (Asked v) xs = refl
-said_told (Refused NoArray) xs = refl
-said_told (Refused NoElement) xs = refl
-said_told (Refused NoScalar) xs = refl
-said_told (Refused Shut) xs = refl
+said_told (Ok (Stepped a)) xs = refl
+said_told (Ok Fed) xs = refl
+said_told (Ok (Asked v)) xs = refl
+said_told (Err NoArray) xs = refl
+said_told (Err NoElement) xs = refl
+said_told (Err NoScalar) xs = refl
+said_told (Err Shut) xs = refl
 
 abbrev pub answer_of : Terms → Call → Run → Answer
 answer_of x c s = said_as (reply x (of_call c) s)

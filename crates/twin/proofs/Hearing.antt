@@ -13,9 +13,8 @@ use Rattle.run.specs.declared.memory.LeakLine.{LeakLine}
 use Rattle.run.specs.declared.memory.Memory.{Memory}
 use Rattle.twin.specs.declared.call.Call.{Call}
 use Rattle.twin.specs.declared.call.Call.TheVariants.{Advance, Feed, Ask}
-use Rattle.twin.specs.declared.call.Answer.{Answer}
 use Rattle.run.specs.Views.{of_line, of_place, leak_line}
-use Rattle.twin.specs.Logs.{of_call, told, lines_in, overwritten, laid, places, all_places, heard, has_room, journal, Logged}
+use Rattle.twin.specs.Logs.{Answer, of_call, told, lines_in, overwritten, laid, places, all_places, heard, has_room, journal, Logged}
 use Rattle.twin.proofs.Along.{said_as, sayings, trace_of, Along, all_answered, all_laid}
 
 -- An answer without lines is read back as it was.

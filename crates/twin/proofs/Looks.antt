@@ -1,25 +1,33 @@
 -- From the rules' two runs to what both and trial promise.
-use Rattle.std.proofs.Common.{◌≡◌, true, List, map, Ok, sym, ap, ◌∙◌, subst₂, arith}
+use Rattle.std.proofs.Common.{◌≡◌, true, List, map, Some, Ok, Err, sym, ap, ◌∙◌, subst, subst₂, arith}
+use Rattle.std.proofs.lemmas.Grind.{common_steps}
 use Rattle.rules.specs.Order.{Order, Lawful}
 use Rattle.rules.specs.Leakage.{Leakage, Honest}
-use Rattle.rules.specs.Clearance.{Setting, array_level}
+use Rattle.rules.specs.Clearance.{Setting, Leak, array_level}
 use Rattle.rules.specs.Run.{Run, Sized, Agree}
 use Rattle.rules.proofs.Proved.{two_runs}
 use Rattle.listing.specs.declared.routine.Routine.{Routine}
 use Rattle.reach.proofs.Loaded.{formed_of, arrays_of}
 use Rattle.clearance.specs.declared.record.Examination.{Examination}
-use Rattle.clearance.specs.Outcomes.{is_granted}
+use Rattle.clearance.specs.declared.outcome.ClearFault.TheVariants as fault
+use Rattle.clearance.specs.Bounds.{bound_number}
+use Rattle.clearance.specs.declared.leak.LeakSite.{LeakSite}
+use Rattle.clearance.specs.Outcomes.{Outcome, is_granted, fault_of}
 use Rattle.clearance.specs.Opens.{opens_of}
-use Rattle.clearance.specs.Scenes.{Scene, scene, setting}
-use Rattle.clearance.specs.Examinations.{Examined, RightOpens}
+use Rattle.clearance.specs.Scenes.{Scene, scene, setting, Fitting}
+use Rattle.clearance.specs.Examinations.{Examined, RightOpens, RightOutcome}
 use Rattle.clearance.proofs.Tellings.{earned}
 use Rattle.run.specs.Views.{of_memory, zeroed}
 use Rattle.run.specs.Runs.{terms_of}
 use Rattle.leakage.specs.declared.model.LeakageModel.{Ghosts}
-use Rattle.twin.specs.declared.pair.Pair.{Pair}
-use Rattle.twin.specs.declared.pair.Memories.{Memories}
+use Rattle.run.specs.declared.memory.Memory.{Memory}
+use Rattle.twin.specs.declared.pair.Two.{Two}
+use Rattle.twin.specs.declared.pair.Open.{Open}
 use Rattle.twin.specs.Logs.{Journal, of_call, start_of, stop_of, Logged}
-use Rattle.twin.specs.Twins.{LookAlike, LoggedByRules, Ran, Tried, BothOpen, scene_in}
+use Rattle.twin.specs.declared.pair.Declined.{Declined}
+use Rattle.twin.specs.declared.pair.Reason.{Reason}
+use Rattle.twin.specs.declared.pair.Reason.TheVariants.{Room, Clear}
+use Rattle.twin.specs.Twins.{LookAlike, LoggedByRules, Ran, Kept, Tried, DeclinedBy, DeclinedFor, BothOpen, scene_in}
 use Rattle.twin.proofs.Telling.{same_opens, logged_same}
 
 module _ {L M : Type 0} (o : Order L) (w : M → Leakage) (levels : List L) (listener : L) (e : Examination M)
@@ -69,12 +77,17 @@ module _ {L M : Type 0} (o : Order L) (w : M → Leakage) (levels : List L) (lis
         agree = subst₂ (λ u v. Agree C u.point u.memory v.memory) (sym at) (sym at') out.agree;
       }
 
+leaks : {L : Type 0} (c : Setting L) (out : Outcome) (s : LeakSite) → RightOutcome c out → fault_of out ≡ Some (fault.Leak s) → Leak c s.node s.operand (bound_number s.bound) s.name
+leaks c (Ok u) s r f = cc
+leaks c (Err fault.TableLength) s r f = absurd r
+leaks c (Err (fault.Leak x)) s r f = let same : x ≡ s = cc in subst (λ y. Leak c y.node y.operand (bound_number y.bound) y.name) same r
+
 module _ {L M : Type 0} (o : Order L) (w : M → Leakage) (levels : List L) (listener : L) (e : Examination M) (j k : Journal)
     (routine : Routine) (model : M) (keeps : (e.routine ≡ routine) × (e.model ≡ model))
     (E : Examined (scene o (w model) routine.listing levels listener) e) where
   -- Where both lists were made, and both runs are closed.
   pub tried :
-      {g : Ghosts M} (p : Pair M g) (wiped : Memories)
+      {g : Ghosts M} (p : Two (Open M g)) (wiped : Two Memory)
       → BothOpen o w levels listener e j k p
       → wiped.first ≡ zeroed
       → wiped.second ≡ zeroed
@@ -96,3 +109,16 @@ module _ {L M : Type 0} (o : Order L) (w : M → Leakage) (levels : List L) (lis
         second_wiped = z';
       } in
       subst₂ P keeps.0 keeps.1 own E
+
+  -- Where no run was begun.
+  declined_for : (r : Reason) → DeclinedBy e j k r → DeclinedFor (scene o (w model) routine.listing levels listener) j k r
+  declined_for Room h = h
+  declined_for (Clear fault.TableLength) h =
+      let f = h.1 in let out = E.right_outcome in grind (arith, common_steps)
+  declined_for (Clear (fault.Leak s)) h =
+      let f = h.1 in let long = E.wrong_length in
+      let fits : Fitting (scene o (w model) routine.listing levels listener) = grind (arith, common_steps) in
+      (h.0, fits, leaks _ e.outcome s (E.right_outcome fits) h.1)
+
+  pub declined : (d : Declined) → DeclinedBy e j k d.reason × Kept j k d → Tried (scene o (w model) routine.listing levels listener) j k (Err d)
+  declined d p = (declined_for d.reason p.0, p.1)

@@ -1,5 +1,5 @@
 -- A list of calls, its log, and how the log is read as the rules' answers.
-use Rattle.std.specs.Prelude.{◌≡◌, ℕ, ◌+◌, Bool, ◌&&◌, List, [], ◌∷◌, ◌++◌, map, length, take, drop, nat_le}
+use Rattle.std.specs.Prelude.{◌≡◌, ℕ, ◌+◌, Bool, ◌&&◌, List, [], ◌∷◌, ◌++◌, map, length, take, drop, nat_le, Ok, Err, Result}
 use Rattle.rules.specs.Routine.{Routine}
 use Rattle.rules.specs.Run.{Terms, Run, started, reply, after, replies, after_all}
 use Rattle.rules.specs.Run.{Call as RulesCall, Answer as RulesAnswer}
@@ -10,24 +10,28 @@ use Rattle.listing.specs.declared.parts.Listing.{Listing}
 use Rattle.listing.specs.Forms.{routine_of}
 use Rattle.run.specs.declared.memory.LeakLine.{LeakLine}
 use Rattle.run.specs.declared.memory.Memory.{Memory}
+use Rattle.run.specs.declared.faults.RunFault.{RunFault}
 use Rattle.run.specs.Views.{of_memory, of_place, of_fault, leak_line}
 use Rattle.run.specs.Runs.{advanced}
 use Rattle.twin.specs.declared.call.Call.{Call}
 use Rattle.twin.specs.declared.call.Call.TheVariants as call
-use Rattle.twin.specs.declared.call.Answer.{Answer}
-use Rattle.twin.specs.declared.call.Answer.TheVariants.{Stepped, Fed, Asked, Refused}
+use Rattle.twin.specs.declared.call.Reply.{Reply}
+use Rattle.twin.specs.declared.call.Reply.TheVariants.{Stepped, Fed, Asked}
 
 abbrev pub of_call : Call → RulesCall
 of_call (call.Advance n) = Advance n
 of_call (call.Feed p v) = Feed (of_place p) v
 of_call (call.Ask p) = Ask (of_place p)
 
+abbrev pub Answer : Type 0
+Answer = Result Reply RunFault
+
 -- An answer of the code, with what its call's own places hold, as the rules' answer: the lines below the count alone.
 abbrev pub told : Answer → List LeakLine → RulesAnswer
-told (Stepped a) xs = advanced a xs
-told Fed xs = Granted
-told (Asked v) xs = Told v
-told (Refused f) xs = RefusedSo (of_fault f)
+told (Ok (Stepped a)) xs = advanced a xs
+told (Ok Fed) xs = Granted
+told (Ok (Asked v)) xs = Told v
+told (Err f) xs = RefusedSo (of_fault f)
 
 -- The places for leak lines that a call has.
 abbrev pub places : Call → ℕ

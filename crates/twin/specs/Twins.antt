@@ -6,14 +6,16 @@ use Rattle.rules.specs.Clearance.{Setting, Cleared, Leak, TellsOpen}
 use Rattle.rules.specs.Run.{Run, Agree, Alike, terms}
 use Rattle.clearance.specs.declared.record.Examination.{Examination}
 use Rattle.clearance.specs.declared.outcome.ClearFault.TheVariants as fault
+use Rattle.clearance.specs.Bounds.{bound_number}
 use Rattle.clearance.specs.Outcomes.{is_granted, fault_of}
 use Rattle.clearance.specs.Scenes.{Scene, scene, setting, Fitting}
 use Rattle.clearance.specs.Examinations.{Examined}
 use Rattle.leakage.specs.declared.model.LeakageModel.{Ghosts}
 use Rattle.run.specs.Views.{of_memory, zeroed}
 use Rattle.run.specs.Runs.{terms_of, state_of}
-use Rattle.twin.specs.declared.pair.Pair.{Pair}
-use Rattle.twin.specs.declared.pair.Memories.{Memories}
+use Rattle.run.specs.declared.memory.Memory.{Memory}
+use Rattle.twin.specs.declared.pair.Two.{Two}
+use Rattle.twin.specs.declared.pair.Open.{Open}
 use Rattle.twin.specs.declared.pair.Declined.{Declined}
 use Rattle.twin.specs.declared.pair.Reason.{Reason}
 use Rattle.twin.specs.declared.pair.Reason.TheVariants.{Room, Clear}
@@ -53,7 +55,7 @@ pub record Kept (j k : Journal) (d : Declined) : Type 0 where
 module _ {L : Type 0} (x : Scene L) (j k : Journal) where
   -- Both lists were made: there was room, the table fits, and some typing table meets the rules. Both logs are right, the guarantee holds, and
   -- both memories are given back with zero in every scalar and cell.
-  pub record Ran (w : Memories) : Type 0 where
+  pub record Ran (w : Two Memory) : Type 0 where
     pub room : both_room j k ≡ true
     pub fits : Fitting x
     pub cleared : Cleared (setting x)
@@ -68,10 +70,10 @@ module _ {L : Type 0} (x : Scene L) (j k : Journal) where
   DeclinedFor Room = both_room j k ≡ false
   DeclinedFor (Clear fault.TableLength) = (both_room j k ≡ true) × (Fitting x → ⊥)
   DeclinedFor (Clear (fault.Leak s)) =
-      (both_room j k ≡ true) × Fitting x × Leak (setting x) s.node s.operand s.bound s.name
+      (both_room j k ≡ true) × Fitting x × Leak (setting x) s.node s.operand (bound_number s.bound) s.name
 
   -- What a trial promises.
-  abbrev pub Tried : Result Memories Declined → Type 0
+  abbrev pub Tried : Result (Two Memory) Declined → Type 0
   Tried (Ok w) = Ran w
   Tried (Err d) = DeclinedFor d.reason × Kept j k d
 
@@ -87,7 +89,7 @@ DeclinedBy e j k (Clear f) = (both_room j k ≡ true) × (fault_of e.outcome ≡
 module _ {L M : Type 0} {g : Ghosts M} (o : Order L) (w : M → Leakage) (levels : List L) (listener : L) (e : Examination M) (j k : Journal) where
   -- Both lists were made, and both runs of the record are still open, where the rules say that they stand. The guarantee holds of these levels
   -- and this listener if the record was made for them.
-  pub record BothOpen (p : Pair M g) : Type 0 where
+  pub record BothOpen (p : Two (Open M g)) : Type 0 where
     pub room : both_room j k ≡ true
     pub granted : is_granted e.outcome ≡ true
     pub first_exam : p.first.run.exam.now ≡ e
@@ -101,6 +103,6 @@ module _ {L M : Type 0} {g : Ghosts M} (o : Order L) (w : M → Leakage) (levels
         → LookAlike (scene_in o w levels listener e) j k (state_of p.first.run) (state_of p.second.run)
 
   -- What a pair of runs promises.
-  abbrev pub Paired : Result (Pair M g) Declined → Type 0
+  abbrev pub Paired : Result (Two (Open M g)) Declined → Type 0
   Paired (Ok p) = BothOpen p
   Paired (Err d) = DeclinedBy e j k d.reason × Kept j k d

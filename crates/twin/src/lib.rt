@@ -8,6 +8,6 @@ mod perform;
 mod tests;
 mod trying;
 
-pub use call::{Answer, Call, Log};
-pub use pair::{Declined, Memories, Open, Pair, Reason, both};
+pub use call::{Answer, Call, Reply, Script};
+pub use pair::{Declined, Open, Reason, Two, both};
 pub use trying::trial;

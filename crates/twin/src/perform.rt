@@ -4,20 +4,9 @@ ghost use Rattle.std.specs.Prelude.{◌≡◌, true, length};
 ghost use Rattle.run.specs.Runs.{terms_in, state_of, answer_to, state_past};
 ghost use Rattle.twin.specs.Logs.{of_call, told, lines_in, overwritten, places as places_of, has_room, journal, Logged, last_state};
 
-use crate::call::{Answer, Call};
+use crate::call::{Answer, Call, Reply};
 use leakage::LeakageModel;
 use run::{LeakLine, Run};
-
-// The places for leak lines that a call has.
-fn places(call: Call) -> usize
-    ensures { result ≡ places_of call }
-{
-    match call {
-        Call::Advance(n) => n as usize,
-        Call::Feed(_, _) => 0,
-        Call::Ask(_) => 0,
-    }
-}
 
 // One call, with the places that are its own.
 fn make<M: LeakageModel>(run: &mut Run<'_, M>, call: Call, lines: &mut [LeakLine]) -> Answer
@@ -28,15 +17,15 @@ fn make<M: LeakageModel>(run: &mut Run<'_, M>, call: Call, lines: &mut [LeakLine
     ensures exam { run.new.exam.now ≡ run.old.exam.now }
 {
     match call {
-        Call::Advance(_) => Answer::Stepped(run.advance(lines)),
-        Call::Feed(place, value) => match run.feed(place, value) {
-            Ok(()) => Answer::Fed,
-            Err(fault) => Answer::Refused(fault),
-        },
-        Call::Ask(place) => match run.ask(place) {
-            Ok(value) => Answer::Asked(value),
-            Err(fault) => Answer::Refused(fault),
-        },
+        Call::Advance(_) => Ok(Reply::Stepped(run.advance(lines))),
+        Call::Feed(place, value) => {
+            run.feed(place, value)?;
+            Ok(Reply::Fed)
+        }
+        Call::Ask(place) => {
+            let value = run.ask(place)?;
+            Ok(Reply::Asked(value))
+        }
     }
 }
 
@@ -53,28 +42,10 @@ pub(crate) fn perform<M: LeakageModel>(
     ensures exam { run.new.exam.now ≡ run.old.exam.now }
 {
     let mut used = 0;
-    for i in 0..calls.len() {
-        let call = calls[i];
-        let end = used + places(call);
-        answers[i] = make(run, call, &mut lines[used..end]);
+    // By place: after a zip of the lent answers with the calls, the proof knows nothing of what they hold.
+    for (i, call) in calls.iter().enumerate() {
+        let end = used + call.places();
+        answers[i] = make(run, *call, &mut lines[used..end]);
         used = end;
     }
-}
-
-// Whether the two rooms have a place for each answer and each leak line.
-pub(crate) fn enough_room(calls: &[Call], answers: &[Answer], lines: &[LeakLine]) -> bool
-    ensures { result ≡ has_room calls.now answers.now lines.now }
-{
-    if calls.len() > answers.len() {
-        return false;
-    }
-    let mut left = lines.len();
-    for call in calls {
-        let n = places(*call);
-        if n > left {
-            return false;
-        }
-        left -= n;
-    }
-    true
 }

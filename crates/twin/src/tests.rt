@@ -1,7 +1,7 @@
 //! A trial of a small routine.
 
-use crate::call::{Answer, Call, Log};
-use crate::pair::{Declined, Memories};
+use crate::call::{Call, Reply, Script};
+use crate::pair::{Declined, Two};
 use crate::trying::trial;
 use leakage::Baseline;
 use levels::Secrecy;
@@ -27,19 +27,21 @@ fn the_secret_is_not_heard(rt: HostRuntime) -> Result<(), Fail> {
     let routine = load(LOOKUP)?;
     let levels = [Secrecy::Secret, Secrecy::Public, Secrecy::Public];
     let calls = [Call::Advance(3), Call::Ask(Place::Scalar(1))];
-    let mut answers = [Answer::Fed; 2];
-    let mut replies = [Answer::Fed; 2];
+    let mut answers = [Ok(Reply::Fed); 2];
+    let mut replies = [Ok(Reply::Fed); 2];
     let mut lines = [LeakLine { node: 5, mark: 5 }; 3];
     let mut traces = [LeakLine { node: 6, mark: 6 }; 3];
-    let memories = Memories {
+    let memories = Two {
         first: memory(1),
         second: memory(2),
     };
-    let log = Log {
+    let one = Script {
+        calls: &calls,
         answers: &mut answers,
         lines: &mut lines,
     };
-    let copy = Log {
+    let two = Script {
+        calls: &calls,
         answers: &mut replies,
         lines: &mut traces,
     };
@@ -49,26 +51,24 @@ fn the_secret_is_not_heard(rt: HostRuntime) -> Result<(), Fail> {
         &levels,
         Secrecy::Public,
         memories,
-        &calls,
-        &calls,
-        log,
-        copy,
+        one,
+        two,
     ) {
-        Ok(Memories { first, second }) => {
+        Ok(Two { first, second }) => {
             assert_eq!(rt; first.scalars[1], 0);
             assert_eq!(rt; second.cells[511], 0);
         }
         Err(
             Declined {
                 reason: _,
-                memories: Memories {
+                memories: Two {
                     first: _,
                     second: _,
                 },
             },
         ) => return Err(Fail::new("declined")),
     }
-    let (Answer::Asked(one), Answer::Asked(two)) = (answers[1], replies[1]) else {
+    let (Ok(Reply::Asked(one)), Ok(Reply::Asked(two))) = (answers[1], replies[1]) else {
         return Err(Fail::new("not told"));
     };
     assert_eq!(rt; (one, two), (9, 9));

@@ -2,34 +2,16 @@
 
 ghost use Rattle.std.specs.Prelude.{◌≡◌};
 ghost use Rattle.clearance.specs.Scenes.{scene};
-ghost use Rattle.run.specs.Views.{zeroed};
 ghost use Rattle.twin.specs.Logs.{journal};
 ghost use Rattle.twin.specs.Twins.{Tried};
 
-use crate::call::{Call, Log};
-use crate::pair::{Declined, Memories, Open, Pair, both};
+use crate::call::Script;
+use crate::pair::{Declined, Two, both};
 use clearance::examine;
 use leakage::LeakageModel;
 use levels::Level;
 use listing::Routine;
-use run::close;
-
-// Closes both runs.
-fn close_both<M: LeakageModel>(pair: Pair<'_, M>) -> Memories
-    ensures first { result.first ≡ zeroed }
-    ensures second { result.second ≡ zeroed }
-{
-    let Pair { first, second } = pair;
-    let Open { run, ticket } = first;
-    let Open {
-        run: other,
-        ticket: spare,
-    } = second;
-    Memories {
-        first: close(run, ticket),
-        second: close(other, spare),
-    }
-}
+use run::Memory;
 
 /// Examines the routine, starts two runs, makes the calls of each list in its own memory and with its own log, and closes both. It declines
 /// where a log has too little room, and where there is no clearance.
@@ -38,23 +20,37 @@ pub fn trial<L: Level, M: LeakageModel>(
     model: M,
     levels: &[L],
     listener: L,
-    memories: Memories,
-    calls: &[Call],
-    others: &[Call],
-    log: Log<'_>,
-    copy: Log<'_>,
-) -> Result<Memories, Declined>
-    ensures { Tried (scene L.order (M.leakage model) routine.listing levels.now listener) (journal memories.first calls.now log.entry.answers.now log.exit.0.now log.entry.lines.now log.exit.1.0.now) (journal memories.second others.now copy.entry.answers.now copy.exit.0.now copy.entry.lines.now copy.exit.1.0.now) result }
+    memories: Two<Memory>,
+    one: Script<'_>,
+    two: Script<'_>,
+) -> Result<Two<Memory>, Declined>
+    ensures { Tried (scene L.order (M.leakage model) routine.listing levels.now listener) (journal memories.first one.entry.calls.now one.entry.answers.now one.exit.1.0.now one.entry.lines.now one.exit.1.1.0.now) (journal memories.second two.entry.calls.now two.entry.answers.now two.exit.1.0.now two.entry.lines.now two.exit.1.1.0.now) result }
 {
-    // A log that was passed in cannot be handed on: its rooms are, in a log made anew.
-    let Log { answers, lines } = log;
-    let log = Log { answers, lines };
-    let Log { answers, lines } = copy;
-    let copy = Log { answers, lines };
-    let exam = examine(routine, model, levels, listener);
-    let pair = match both(&exam, levels, listener, memories, calls, others, log, copy) {
-        Ok(pair) => pair,
-        Err(declined) => return Err(declined),
+    // A script that was passed in cannot be handed on: what it holds is, in a script made anew.
+    let Script {
+        calls,
+        answers,
+        lines,
+    } = one;
+    let one = Script {
+        calls,
+        answers,
+        lines,
     };
-    Ok(close_both(pair))
+    let Script {
+        calls,
+        answers,
+        lines,
+    } = two;
+    let two = Script {
+        calls,
+        answers,
+        lines,
+    };
+    let exam = examine(routine, model, levels, listener);
+    let Two { first, second } = both(&exam, levels, listener, memories, one, two)?;
+    Ok(Two {
+        first: first.close(),
+        second: second.close(),
+    })
 }

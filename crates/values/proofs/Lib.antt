@@ -1,2 +1,2 @@
+pub mod Firsts
 pub mod Lines
-pub mod Runs

@@ -1,7 +1,7 @@
-//! A memory to which values are given, each place once.
+//! The values that are given so far, to each place once.
 
-ghost use Rattle.std.specs.Prelude.{◌≡◌, ◌<◌};
-ghost use Rattle.values.specs.Values.{empty_draft, put_scalar, put_cell, put, put_line, outcome};
+ghost use Rattle.std.specs.Prelude.{◌≡◌, ◌<◌, length};
+ghost use Rattle.values.specs.Values.{empty_draft, put_once, put, put_line, outcome, memory_of};
 
 use crate::entry::{Entry, entry_of};
 use crate::faults::Reason;
@@ -9,73 +9,47 @@ use listing::Routine;
 use reach::{counts_of, region_at};
 use run::Memory;
 
-// Which scalars and which cells have a value already.
-#[derive(Drop)]
-pub struct Named {
-    pub scalars: [bool; 24],
-    pub cells: [bool; 512],
-}
-
-// The memory so far.
+// The value of each scalar and each cell, where one is given.
 #[derive(Drop)]
 pub struct Draft {
-    pub memory: Memory,
-    pub named: Named,
+    // Nothing is allocated: as many places as a memory has.
+    pub scalars: [Option<u32>; 24],
+    pub cells: [Option<u32>; 512],
+}
+
+// Gives a place its value, once.
+fn put_once(places: &mut [Option<u32>], place: usize, value: u32) -> Result<(), Reason>
+    requires { place < length places.old }
+    ensures { outcome result places.new ≡ put_once place value places.old }
+{
+    if places[place].is_some() {
+        return Err(Reason::GivenTwice);
+    }
+    places[place] = Some(value);
+    Ok(())
 }
 
 impl Draft {
-    // All zeros, and nothing named.
     pub(crate) fn empty() -> Draft
         ensures { result ≡ empty_draft }
     {
         Draft {
-            memory: Memory {
-                scalars: [0; 24],
-                cells: [0; 512],
-            },
-            named: Named {
-                scalars: [false; 24],
-                cells: [false; 512],
-            },
+            scalars: [None; 24],
+            cells: [None; 512],
         }
     }
 
-    fn put_scalar(&mut self, scalar: usize, value: u32) -> Result<(), Reason>
-        requires { scalar < 24 }
-        ensures { outcome result self.new ≡ put_scalar scalar value self.old }
-    {
-        if self.named.scalars[scalar] {
-            return Err(Reason::GivenTwice);
-        }
-        self.named.scalars[scalar] = true;
-        self.memory.scalars[scalar] = value;
-        Ok(())
-    }
-
-    fn put_cell(&mut self, cell: usize, value: u32) -> Result<(), Reason>
-        requires { cell < 512 }
-        ensures { outcome result self.new ≡ put_cell cell value self.old }
-    {
-        if self.named.cells[cell] {
-            return Err(Reason::GivenTwice);
-        }
-        self.named.cells[cell] = true;
-        self.memory.cells[cell] = value;
-        Ok(())
-    }
-
-    // Gives a place of the routine its value.
+    // Gives a place of the routine its value. What is asked of a place is what a run asks too, but the refusals are reasons of a text, told with its line.
     fn put(&mut self, routine: &Routine, entry: Entry) -> Result<(), Reason>
         ensures { outcome result self.new ≡ put routine.now.listing entry self.old }
     {
         let counts = counts_of(routine);
         match entry {
-            Entry::Nothing => Ok(()),
             Entry::Scalar { scalar, value } => {
                 if scalar >= counts.scalars {
                     return Err(Reason::NoScalar);
                 }
-                self.put_scalar(scalar as usize, value)
+                put_once(&mut self.scalars, scalar as usize, value)
             }
             Entry::Element {
                 array,
@@ -89,7 +63,7 @@ impl Draft {
                 if index >= region.length {
                     return Err(Reason::NoElement);
                 }
-                self.put_cell((region.start + index) as usize, value)
+                put_once(&mut self.cells, (region.start + index) as usize, value)
             }
         }
     }
@@ -98,7 +72,19 @@ impl Draft {
     pub(crate) fn put_line(&mut self, routine: &Routine, line: &[u8]) -> Result<(), Reason>
         ensures { outcome result self.new ≡ put_line routine.now.listing line.now self.old }
     {
-        let entry = entry_of(line)?;
-        self.put(routine, entry)
+        match entry_of(line)? {
+            Some(entry) => self.put(routine, entry),
+            None => Ok(()),
+        }
+    }
+
+    // The values, and 0 where none is given.
+    pub(crate) fn memory(&self) -> Memory
+        ensures { result ≡ memory_of self.now }
+    {
+        Memory {
+            scalars: self.scalars.map(|value| value.unwrap_or(0)),
+            cells: self.cells.map(|value| value.unwrap_or(0)),
+        }
     }
 }

@@ -1,95 +1,60 @@
 //! What one line of values says.
 
-ghost use Rattle.std.specs.Prelude.{◌≡◌};
-ghost use Rattle.std.specs.Str.{bytes_eq};
-ghost use Rattle.values.specs.Entries.{head_of, number_in, ended, scalar_entry, element_entry, entry_of};
+ghost use Rattle.std.specs.Prelude.{◌≡◌, Ok, Err, MatchResult};
+ghost use Rattle.values.specs.Entries.{number_in, ended, scalar_entry, element_entry, entry_of};
+ghost use Rattle.values.specs.Words.{after_word};
 
 use crate::faults::Reason;
-use crate::words::{after_word, first_word};
+use crate::words::split_word;
 use columns::read_number;
 
-// What a line begins with.
-#[derive(Clone, Copy)]
-pub enum Head {
-    Nothing,
-    Scalar,
-    Array,
-    Other,
-}
-
 // What a line gives a value to.
-#[derive(Clone, Copy)]
+#[derive(Clone, Copy, Debug, PartialEq, Eq)]
 pub enum Entry {
-    Nothing,
     Scalar { scalar: u32, value: u32 },
     Element { array: u32, index: u32, value: u32 },
 }
 
-// Whether the two are the same bytes.
-fn same(word: &[u8], name: &[u8]) -> bool
-    ensures { result ≡ bytes_eq word.now name.now }
+// The number that is the first word, and what follows it.
+fn number_in(text: &[u8]) -> Result<(u32, &[u8]), Reason>
+    ensures { MatchResult result (λ parted. (number_in text.now ≡ Ok parted.0) × (parted.1.now ≡ after_word text.now)) (λ reason. number_in text.now ≡ Err reason) }
 {
-    word == name
-}
-
-fn head_of(word: &[u8]) -> Head
-    ensures { result ≡ head_of word.now }
-{
-    if word.is_empty() {
-        Head::Nothing
-    } else if same(word, b"scalar") {
-        Head::Scalar
-    } else if same(word, b"array") {
-        Head::Array
-    } else {
-        Head::Other
-    }
-}
-
-// The number that is the first word.
-fn number_in(text: &[u8]) -> Result<u32, Reason>
-    ensures { result ≡ number_in text.now }
-{
-    let word = first_word(text);
+    let (word, rest) = split_word(text);
     if word.is_empty() {
         return Err(Reason::TooFewWords);
     }
-    match read_number(word) {
-        Some(number) => Ok(number),
-        None => Err(Reason::NoNumber),
-    }
+    let number = read_number(word).ok_or(Reason::NoNumber)?;
+    Ok((number, rest))
 }
 
 // The entry, if no word follows.
-fn ended(text: &[u8], entry: Entry) -> Result<Entry, Reason>
+fn ended(text: &[u8], entry: Entry) -> Result<Option<Entry>, Reason>
     ensures { result ≡ ended text.now entry }
 {
-    if first_word(text).is_empty() {
-        Ok(entry)
+    let (word, _) = split_word(text);
+    if word.is_empty() {
+        Ok(Some(entry))
     } else {
         Err(Reason::TooManyWords)
     }
 }
 
-fn scalar_entry(text: &[u8]) -> Result<Entry, Reason>
+fn scalar_entry(text: &[u8]) -> Result<Option<Entry>, Reason>
     ensures { result ≡ scalar_entry text.now }
 {
-    let scalar = number_in(text)?;
-    let text = after_word(text);
-    let value = number_in(text)?;
-    ended(after_word(text), Entry::Scalar { scalar, value })
+    let (scalar, text) = number_in(text)?;
+    let (value, text) = number_in(text)?;
+    ended(text, Entry::Scalar { scalar, value })
 }
 
-fn element_entry(text: &[u8]) -> Result<Entry, Reason>
+fn element_entry(text: &[u8]) -> Result<Option<Entry>, Reason>
     ensures { result ≡ element_entry text.now }
 {
-    let array = number_in(text)?;
-    let text = after_word(text);
-    let index = number_in(text)?;
-    let text = after_word(text);
-    let value = number_in(text)?;
+    let (array, text) = number_in(text)?;
+    let (index, text) = number_in(text)?;
+    let (value, text) = number_in(text)?;
     ended(
-        after_word(text),
+        text,
         Entry::Element {
             array,
             index,
@@ -98,14 +63,15 @@ fn element_entry(text: &[u8]) -> Result<Entry, Reason>
     )
 }
 
-// What the line says.
-pub(crate) fn entry_of(line: &[u8]) -> Result<Entry, Reason>
+// What the line says; `None`, if it has no word.
+pub(crate) fn entry_of(line: &[u8]) -> Result<Option<Entry>, Reason>
     ensures { result ≡ entry_of line.now }
 {
-    match head_of(first_word(line)) {
-        Head::Nothing => Ok(Entry::Nothing),
-        Head::Scalar => scalar_entry(after_word(line)),
-        Head::Array => element_entry(after_word(line)),
-        Head::Other => Err(Reason::UnknownWord),
+    let (word, text) = split_word(line);
+    match word {
+        b"" => Ok(None),
+        b"scalar" => scalar_entry(text),
+        b"array" => element_entry(text),
+        _ => Err(Reason::UnknownWord),
     }
 }

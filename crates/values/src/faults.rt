@@ -1,10 +1,12 @@
 //! Why a text of values is refused.
 
-ghost use Rattle.std.specs.Prelude.{◌≡◌};
+ghost use Rattle.std.specs.Prelude.{◌≡◌, Some};
 ghost use Rattle.values.specs.Reasons.{reason_sentence};
 
+use std::fmt;
+
 /// What is wrong with a line of values.
-#[derive(Clone, Copy)]
+#[derive(Clone, Copy, Debug, PartialEq, Eq)]
 pub enum Reason {
     /// It begins with another word than `scalar` or `array`.
     UnknownWord,
@@ -25,7 +27,7 @@ pub enum Reason {
 }
 
 /// The first line that is refused, from 1 on, and what is wrong with it.
-#[derive(Clone, Copy)]
+#[derive(Clone, Copy, Debug, PartialEq, Eq)]
 pub struct ValuesFault {
     pub line: usize,
     pub reason: Reason,
@@ -47,5 +49,13 @@ impl Reason {
             Reason::NoElement => "The array has no such element.",
             Reason::GivenTwice => "A line above gives this place a value already.",
         }
+    }
+}
+
+impl fmt::Display for Reason {
+    ghost output = { λ reason. Some (reason_sentence reason) };
+
+    fn fmt<W: fmt::Write>(&self, f: &mut fmt::Formatter<W>) -> fmt::Result {
+        f.write_str(self.sentence())
     }
 }

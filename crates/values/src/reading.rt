@@ -5,7 +5,6 @@ ghost use Rattle.values.specs.Values.{values_of};
 
 use crate::draft::Draft;
 use crate::faults::ValuesFault;
-use crate::words::{Stretch, front, past, run_of};
 use listing::Routine;
 use run::Memory;
 
@@ -14,20 +13,12 @@ pub fn read_values(text: &[u8], routine: &Routine) -> Result<Memory, ValuesFault
     ensures { result ≡ values_of routine.now.listing text.now }
 {
     let mut draft = Draft::empty();
-    let mut rest = text;
-    let mut done = 0;
-    while !rest.is_empty() {
-        let length = run_of(Stretch::Line, rest);
-        match draft.put_line(routine, front(rest, length)) {
-            Ok(()) => {}
-            Err(reason) => return Err(ValuesFault {
-                line: done + 1,
-                reason,
-            }),
-        }
-        rest = past(past(rest, length), 1);
-        done += 1;
+    // Behind a last newline stands an empty line, which says nothing.
+    for (above, line) in text.split(|byte| *byte == b'\n').enumerate() {
+        draft.put_line(routine, line).map_err(|reason| ValuesFault {
+            line: above + 1,
+            reason,
+        })?;
     }
-    let Draft { memory, named: _ } = draft;
-    Ok(memory)
+    Ok(draft.memory())
 }

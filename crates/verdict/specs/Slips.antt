@@ -1,5 +1,7 @@
 -- The verdict slip: a word in 8 columns, four numbers of 11 columns each, and a newline.
 use Rattle.std.specs.Prelude.{ℕ, List, [], ◌∷◌, ◌++◌, codes, slice_index}
+use Rattle.listing.specs.Faults.{rule_number}
+use Rattle.clearance.specs.Bounds.{bound_number}
 use Rattle.columns.specs.Numbers.{number_column}
 use Rattle.verdict.specs.declared.slip.Slip.{Slip}
 use Rattle.verdict.specs.declared.slip.Slip.TheVariants.{Clear, Leak, Refused}
@@ -12,8 +14,8 @@ slip_word (Refused r) = codes "REFUSED "
 -- A leak has node, operand, bound and start name; a refusal has number, line and field.
 abbrev pub slip_numbers : Slip → List ℕ
 slip_numbers Clear = 0 ∷ 0 ∷ 0 ∷ 0 ∷ []
-slip_numbers (Leak s) = s.node ∷ s.operand ∷ s.bound ∷ s.name ∷ []
-slip_numbers (Refused r) = r.number ∷ r.line ∷ r.field ∷ 0 ∷ []
+slip_numbers (Leak s) = s.node ∷ s.operand ∷ bound_number s.bound ∷ s.name ∷ []
+slip_numbers (Refused r) = rule_number r.rule ∷ r.line ∷ r.field ∷ 0 ∷ []
 
 -- Number i of a slip, from 0, in its column.
 abbrev pub slip_column : Slip → ℕ → List ℕ

@@ -8,7 +8,9 @@ use Rattle.rules.specs.Clearance.{Setting, Cleared}
 use Rattle.rules.specs.Clearance.{Leak as NamedLeak}
 use Rattle.listing.specs.declared.parts.Listing.{Listing}
 use Rattle.listing.specs.declared.faults.RoutineFault.{RoutineFault}
+use Rattle.listing.specs.declared.faults.Rule.TheVariants as rule
 use Rattle.listing.specs.Faults.{refused, refusal_of}
+use Rattle.clearance.specs.Bounds.{bound_number}
 use Rattle.listing.specs.Reading.{listing_read}
 use Rattle.lines.specs.Text.{over}
 use Rattle.clearance.specs.Scenes.{Scene, scene, setting, Fitting}
@@ -24,12 +26,12 @@ bench_scene ds t = scene secrecy_order baseline t (map level_of ds) Public
 -- Of a table that fits: CLEAR where some typing table meets the rules, LEAK with the leak that they name.
 abbrev pub RightSlip : Setting Secrecy → Slip → Type 0
 RightSlip c Clear = Cleared c
-RightSlip c (Leak s) = NamedLeak c s.node s.operand s.bound s.name
+RightSlip c (Leak s) = NamedLeak c s.node s.operand (bound_number s.bound) s.name
 RightSlip c (Refused r) = ⊥
 
 -- Of a listing that loads: 10 where the table does not fit, else by the rules.
 pub record ExaminedSlip (ds : List ℕ) (t : Listing) (x : Slip) : Type 0 where
-  pub wrong_length : (Fitting (bench_scene ds t) → ⊥) → x ≡ Refused (refused 10 0 0)
+  pub wrong_length : (Fitting (bench_scene ds t) → ⊥) → x ≡ Refused (refused rule.TableLength 0 0)
   pub right_slip : Fitting (bench_scene ds t) → RightSlip (setting (bench_scene ds t)) x
 
 -- Load's refusal, or what came of the examination.
@@ -39,7 +41,7 @@ LoadedSlip ds (Ok t) x = ExaminedSlip ds t x
 
 -- 17 at the first byte that is no level digit, before loading; else by the listing.
 abbrev pub DigitsSlip : List ℕ → List ℕ → Option ℕ → Slip → Type 0
-DigitsSlip ds s (Some p) x = x ≡ Refused (refused 17 (min p 4294967295) 0)
+DigitsSlip ds s (Some p) x = x ≡ Refused (refused rule.Digit (min p 4294967295) 0)
 DigitsSlip ds s None x = LoadedSlip ds (listing_read s) x
 
 -- The slip x is the verdict on the level digits ds and the listing s.

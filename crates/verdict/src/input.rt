@@ -1,33 +1,24 @@
 //! Level digits and a listing in one input, parted by a newline.
 
-ghost use Rattle.std.specs.Prelude.{◌≡◌, ℕ, ◌<◌, ◌≤◌, length, ◌≢◌, slice_index};
-ghost use Rattle.verdict.specs.Inputs.{Marked};
+ghost use Rattle.std.specs.Prelude.{◌≡◌, ◌<◌, length, MatchOption, slice_index};
+ghost use Rattle.verdict.specs.Inputs.{Marked, NoNewline};
 
 use crate::judging::judge;
 use crate::slip::slip_text;
 
-/// The place of the first newline, or the length where there is none.
-fn newline_at(input: &[u8]) -> usize
-    ensures within { result ≤ length input.now }
-    ensures before { (k : ℕ) → k < result → slice_index input.now k ≢ 10 }
-    ensures found { result < length input.now → slice_index input.now result ≡ 10 }
+/// The place of the first newline.
+fn newline_at(input: &[u8]) -> Option<usize>
+    ensures { MatchOption result (NoNewline input.now (length input.now)) (λ e. (e < length input.now) × NoNewline input.now e × (slice_index input.now e ≡ 10)) }
 {
-    for (place, byte) in input.iter().enumerate() {
-        if *byte == b'\n' {
-            return place;
-        }
-    }
-    input.len()
+    input.iter().position(|byte| *byte == b'\n')
 }
 
 /// The slip of the verdict on an input: level digits up to the first newline, then a listing.
 pub fn slip_on(input: &[u8]) -> [u8; 53]
     ensures { Marked input.now result }
 {
-    let end = newline_at(input);
-    if end < input.len() {
-        slip_text(judge(&input[0..end], &input[end + 1..]))
-    } else {
-        slip_text(judge(input, &input[end..]))
+    match newline_at(input) {
+        Some(end) => slip_text(judge(&input[..end], &input[end + 1..])),
+        None => slip_text(judge(input, &[])),
     }
 }

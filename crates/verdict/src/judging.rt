@@ -5,36 +5,26 @@ ghost use Rattle.verdict.specs.Verdicts.{ExaminedSlip, Judged};
 
 use crate::digits::{first_wrong, read_levels};
 use crate::slip::Slip;
-use clearance::{Outcome, examine};
+use clearance::{ClearFault, examine};
 use leakage::Baseline;
 use levels::Secrecy;
-use listing::{Refusal, Routine, capped, load};
-
-/// A refusal that names a line.
-fn refused(number: u32, line: u32) -> Slip
-    ensures { result ≡ Slip.Refused (record { number = number; line = line; field = 0 }) }
-{
-    Slip::Refused(Refusal {
-        number,
-        line,
-        field: 0,
-    })
-}
+use listing::{Routine, Rule, capped, load};
 
 /// The verdict on a routine, by its level digits: two levels, a public listener and the baseline.
 fn examined(digits: &[u8], routine: Routine) -> Slip
     ensures { ExaminedSlip digits.now routine.listing result }
 {
     if digits.len() > 32 {
-        return refused(10, 0);
+        return Slip::Refused(Rule::TableLength.at(0, 0));
     }
+    // Nothing is allocated: no listing has more than 32 names.
     let mut table = [Secrecy::Public; 32];
     let levels = &mut table[0..digits.len()];
     read_levels(digits, levels);
     match examine(routine, Baseline, levels, Secrecy::Public).outcome() {
-        Outcome::Granted => Slip::Clear,
-        Outcome::TableLength => refused(10, 0),
-        Outcome::Leak(site) => Slip::Leak(site),
+        Ok(()) => Slip::Clear,
+        Err(ClearFault::Leak(site)) => Slip::Leak(site),
+        Err(fault) => Slip::Refused(fault.into()),
     }
 }
 
@@ -43,10 +33,10 @@ pub fn judge(digits: &[u8], listing: &[u8]) -> Slip
     ensures { Judged digits.now listing.now result }
 {
     if let Some(place) = first_wrong(digits) {
-        return refused(17, capped(place));
+        return Slip::Refused(Rule::Digit.at(capped(place), 0));
     }
     match load(listing) {
         Ok(routine) => examined(digits, routine),
-        Err(fault) => Slip::Refused(fault.refusal()),
+        Err(fault) => Slip::Refused(fault.into()),
     }
 }

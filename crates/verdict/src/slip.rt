@@ -1,8 +1,6 @@
 //! The verdict slip, and its text.
 
-ghost use Rattle.std.specs.Prelude.{◌≡◌, ℕ, ◌+◌, ◌≤◌, length};
-ghost use Rattle.columns.specs.Numbers.{number_column};
-ghost use Rattle.lines.specs.Text.{over};
+ghost use Rattle.std.specs.Prelude.{◌≡◌, length};
 ghost use Rattle.verdict.specs.Slips.{slip_word, slip_numbers, slip_text};
 
 use clearance::LeakSite;
@@ -10,7 +8,7 @@ use columns::write_number;
 use listing::Refusal;
 
 /// What the marker sees: cleared, the leak, or why there is no answer.
-#[derive(Clone, Copy)]
+#[derive(Clone, Copy, Debug, PartialEq, Eq)]
 pub enum Slip {
     Clear,
     Leak(LeakSite),
@@ -34,17 +32,9 @@ fn numbers_of(slip: Slip) -> [u32; 4]
 {
     match slip {
         Slip::Clear => [0; 4],
-        Slip::Leak(site) => [site.node, site.operand, site.bound, site.name],
-        Slip::Refused(refusal) => [refusal.number, refusal.line, refusal.field, 0],
+        Slip::Leak(site) => [site.node, site.operand, u32::from(site.bound), site.name],
+        Slip::Refused(refusal) => [u32::from(refusal.rule), refusal.line, refusal.field, 0],
     }
-}
-
-/// Writes a number column of 11 places at a place of the room.
-fn put_number(value: u32, room: &mut [u8], at: usize)
-    requires { at + 11 ≤ length room.old }
-    ensures { room.new ≡ over at (number_column 11 value) room.old }
-{
-    write_number(value, &mut room[at..at + 11]);
 }
 
 /// Writes a slip over the whole room.
@@ -55,10 +45,11 @@ fn put_slip(slip: Slip, room: &mut [u8])
     let word = word_of(slip);
     let numbers = numbers_of(slip);
     room[0..8].copy_from_slice(&word);
-    put_number(numbers[0], room, 8);
-    put_number(numbers[1], room, 19);
-    put_number(numbers[2], room, 30);
-    put_number(numbers[3], room, 41);
+    // By place: after columns that are lent by `chunks_mut`, the proof knows the length of the room and not what it holds.
+    for (i, number) in numbers.iter().enumerate() {
+        let start = 8 + 11 * i;
+        write_number(*number, &mut room[start..start + 11]);
+    }
     room[52] = b'\n';
 }
 

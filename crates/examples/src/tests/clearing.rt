@@ -4,7 +4,7 @@ use crate::{
     copying_loop, indexed_store, lookup_after_constant, lookup_from_fourteen, quotient,
     table_lookup,
 };
-use clearance::{Outcome, examine};
+use clearance::{ClearFault, examine};
 use leakage::{Baseline, CacheLine, LeakageModel, ProgramCounter, TimeVariable};
 use levels::{Level, Owners, Pair, Secrecy};
 use listing::load;
@@ -29,9 +29,11 @@ fn clearing<L: Level, M: LeakageModel>(
         return Verdict::NotLoaded;
     };
     match examine(routine, model, levels, listener).outcome() {
-        Outcome::Granted => Verdict::Cleared,
-        Outcome::TableLength => Verdict::WrongLength,
-        Outcome::Leak(site) => Verdict::Leaks(site.node, site.operand, site.bound, site.name),
+        Ok(()) => Verdict::Cleared,
+        Err(ClearFault::TableLength) => Verdict::WrongLength,
+        Err(ClearFault::Leak(site)) => {
+            Verdict::Leaks(site.node, site.operand, u32::from(site.bound), site.name)
+        }
     }
 }
 

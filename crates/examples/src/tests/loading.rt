@@ -1,6 +1,6 @@
 //! Loading and writing, on examples.
 
-use listing::{load, write};
+use listing::{Refusal, load, write};
 use std::alloc::Global;
 use std::fmt::Write;
 use std::test::Fail;
@@ -118,13 +118,8 @@ const CASES: [Case; 25] = [
 
 /// The number, line and field by which a listing is refused.
 fn refused(text: &[u8]) -> Option<(u32, u32, u32)> {
-    match load(text) {
-        Ok(_) => None,
-        Err(fault) => {
-            let refusal = fault.refusal();
-            Some((refusal.number, refusal.line, refusal.field))
-        }
-    }
+    let refusal = Refusal::from(load(text).err()?);
+    Some((u32::from(refusal.rule), refusal.line, refusal.field))
 }
 
 /// Appends one line.

@@ -1,6 +1,6 @@
 //! Advance.
 
-ghost use Rattle.std.specs.Prelude.{◌≡◌, ◌<◌, true, false, not, length, drop, ◌==◌, nat_lt, slice_set};
+ghost use Rattle.std.specs.Prelude.{◌≡◌, ◌<◌, true, false, not, length, drop, ◌==◌, nat_lt};
 ghost use Rattle.rules.specs.Routine.{end};
 ghost use Rattle.rules.specs.Run.{line, step};
 ghost use Rattle.rules.specs.Run.Call.{Advance};
@@ -10,9 +10,8 @@ ghost use Rattle.run.specs.Runs.{terms_in, state_of, answer_to, state_past, adva
 
 use super::Run;
 use crate::memory::{Advanced, LeakLine};
-use crate::steps::{mark_of, step_memory, step_point};
+use crate::step::Step;
 use leakage::LeakageModel;
-use reach::node_at;
 
 impl<M: LeakageModel> Run<'_, M> {
     // Whether the run stands at the end.
@@ -23,20 +22,21 @@ impl<M: LeakageModel> Run<'_, M> {
         self.point == self.exam.routine().listing().counts.nodes
     }
 
-    // One step, whose leak line is written into the place.
-    fn step(&mut self, lines: &mut [LeakLine], place: usize)
-        requires { (self.old.point < end (routine_of self.old.exam.now.routine.listing)) × (place < length lines.old) }
-        ensures line { lines.new ≡ slice_set lines.old place (leak_line (line (terms_in M.leakage self.old).model (terms_in M.leakage self.old).routine (state_of self.old))) }
+    // One step, and its leak line.
+    fn step(&mut self) -> LeakLine
+        requires { self.old.point < end (routine_of self.old.exam.now.routine.listing) }
+        ensures line { result ≡ leak_line (line (terms_in M.leakage self.old).model (terms_in M.leakage self.old).routine (state_of self.old)) }
         ensures state { state_of self.new ≡ step (terms_in M.leakage self.old).routine (state_of self.old) }
         ensures exam { self.new.exam.now ≡ self.old.exam.now }
     {
-        let routine = self.exam.routine();
-        let point = self.point;
-        let node = node_at(routine, point as usize);
-        let mark = mark_of(self.exam.model(), routine, node, &self.memory);
-        self.point = step_point(node, point, &self.memory);
-        step_memory(routine, node, &mut self.memory);
-        lines[place] = LeakLine { node: point, mark };
+        let step = Step::at(self.exam.routine(), self.point);
+        let line = LeakLine {
+            node: self.point,
+            mark: step.mark(self.exam.model(), &self.memory),
+        };
+        self.point = step.next(&self.memory);
+        step.change(&mut self.memory);
+        line
     }
 
     // What advance answers where the run stands now.
@@ -57,11 +57,12 @@ impl<M: LeakageModel> Run<'_, M> {
         ensures state { state_of self.new ≡ state_past self.old (Advance (length lines.old)) }
         ensures exam { self.new.exam.now ≡ self.old.exam.now }
     {
-        let mut count = 0;
-        while count < lines.len() && !self.at_end() {
-            self.step(lines, count);
-            count += 1;
+        for (count, line) in lines.iter_mut().enumerate() {
+            if self.at_end() {
+                return self.report(count);
+            }
+            *line = self.step();
         }
-        self.report(count)
+        self.report(lines.len())
     }
 }

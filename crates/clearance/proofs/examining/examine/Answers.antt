@@ -20,9 +20,9 @@ returns g c =
             wrong_length = λ h. absurd (h fit);
             right_outcome =
                 λ _.
-                subst (RightOutcome (setting x)) (sym c.outcome_of.ensures)
+                subst (RightOutcome (setting x)) (sym c.outcome_of-outcome.ensures)
                 (right_outcome o l r levels c.args.listener fit g.met.L.Level.lawful c.reach-table.result c.reach-table.ensures
-                c.first_leak-leak.result c.first_leak-leak.ensures);
+                c.first_leak.result c.first_leak.ensures);
             right_opens =
                 λ _.
                 right_opens o l r levels c.args.listener fit c.reach-table.result c.reach-table.ensures c.flowing-heard.result

@@ -1,6 +1,6 @@
-use Rattle.std.proofs.Common.{◌≡◌, ◌≤◌, drop}
+use Rattle.std.proofs.Common.{◌≡◌, drop}
 use Rattle.columns.specs.Numbers.{digits_value}
 use Rattle.columns.proofs.number.read_digits.Given as goal
 
 abbrev pub invariant-loop-byte : goal.invariant-loop-byte
-invariant-loop-byte l = (l.value ≤ 4294967295) × (digits_value l.first l.rest ≡ digits_value l.value (drop l.byte-index l.rest))
+invariant-loop-byte l = digits_value l.first l.rest ≡ digits_value l.value (drop l.byte-index l.rest)

@@ -1,8 +1,5 @@
 use Rattle.command.proofs.telling.fault_text.Goals as goal
 
-pub returns-in-UnknownCommand : goal.returns-in-UnknownCommand
-returns-in-UnknownCommand c = rw (c.in-UnknownCommand.is, ← c.word_at-verb.ensures) c.format.ensures.ok
-
 pub returns-in-WordAfterHelp : goal.returns-in-WordAfterHelp
 returns-in-WordAfterHelp c =
     rw (c.in-WordAfterHelp.is, ← c.word_at-verb.ensures, ← c.word_at-word.ensures) c.format-in-WordAfterHelp.ensures.ok
@@ -11,16 +8,9 @@ pub returns-in-UnknownOption : goal.returns-in-UnknownOption
 returns-in-UnknownOption c =
     rw (c.in-UnknownOption.is, ← c.word_at-verb.ensures, ← c.word_at-word-in-UnknownOption.ensures) c.format-in-UnknownOption.ensures.ok
 
-pub returns-in-Repeated : goal.returns-in-Repeated
-returns-in-Repeated c = rw (c.in-Repeated.is, ← c.word-word.ensures) c.format-in-Repeated.ensures.ok
-
 pub returns-in-NoFile : goal.returns-in-NoFile
 returns-in-NoFile c = rw (c.in-NoFile.is, ← c.word_at-verb.ensures) c.format-in-NoFile.ensures.ok
 
 pub returns-in-SecondFile : goal.returns-in-SecondFile
 returns-in-SecondFile c =
     rw (c.in-SecondFile.is, ← c.word_at-verb.ensures, ← c.word_at-word-in-SecondFile.ensures) c.format-in-SecondFile.ensures.ok
-
-pub returns-in-Missing : goal.returns-in-Missing
-returns-in-Missing c =
-    rw (c.in-Missing.is, ← c.word_at-verb.ensures, ← c.word-word-in-Missing.ensures) c.format-in-Missing.ensures.ok

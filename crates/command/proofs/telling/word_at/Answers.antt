@@ -14,10 +14,10 @@ beyond [] p h = refl
 beyond (x ∷ ws) zero h = let z : ⊥ = omega arith in absurd z
 beyond (x ∷ ws) (suc p) h = beyond ws p (omega arith)
 
-pub returns-then-place-words : goal.returns-then-place-words
-returns-then-place-words c =
-    let w = c.index-words-place.result in
-    c.as_str.ensures.value ∙ ap string_bytes c.index-words-place.is ∙ within c.args.words.now c.args.place w c.if-place-words.true
+pub returns-in-Some : goal.returns-in-Some
+returns-in-Some c =
+    let found = c.in-Some.ensures.lookup in
+    c.as_str.ensures.value ∙ ap string_bytes found.1 ∙ within c.args.words.now c.args.place c.in-Some.word.now found.3.0
 
-pub returns-else-place-words : goal.returns-else-place-words
-returns-else-place-words c = beyond c.args.words.now c.args.place c.if-place-words.false
+pub returns-in-None : goal.returns-in-None
+returns-in-None c = beyond c.args.words.now c.args.place (c.in-None.ensures.lookup).3

@@ -4,7 +4,5 @@ use Rattle.levels.specs.Names.{has}
 use Rattle.levels.specs.Tables.{start_level}
 use Rattle.levels.proofs.table.join_of.Given as goal
 
-abbrev pub invariant-loop-level : goal.invariant-loop-level
-invariant-loop-level g l =
-    (l.name ≡ l.level-index)
-    × (l.all ≡ joined g.L.Level.order (start_level g.L.Level.order l.levels) (has l.names) l.level-index)
+abbrev pub invariant-loop-name : goal.invariant-loop-name
+invariant-loop-name g l = l.all ≡ joined g.L.Level.order (start_level g.L.Level.order l.levels) (has l.names) l.name

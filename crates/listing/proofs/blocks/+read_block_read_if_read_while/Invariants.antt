@@ -13,8 +13,8 @@ decreases-read_while l = 2 * l.depth
 
 abbrev pub invariant-read_block-loop-at : goal.invariant-read_block-loop-at
 invariant-read_block-loop-at l =
-    (l.from ≤ l.at) × (l.at ≤ l.counts.nodes)
-    × ((st : List Open) → length st + l.depth ≡ 16 → scan_from l.bytes l.counts l.from st l.initial.nodes ≡ scan_from l.bytes l.counts l.at st l.nodes)
+    (l.from ≤ l.at) × (l.at ≤ l.source.counts.nodes)
+    × ((st : List Open) → length st + l.depth ≡ 16 → scan_from l.source.bytes.now l.source.counts l.from st l.initial.nodes ≡ scan_from l.source.bytes.now l.source.counts l.at st l.nodes)
 
 abbrev pub decreases-read_block-loop-at : goal.decreases-read_block-loop-at
-decreases-read_block-loop-at l = l.counts.nodes - l.at
+decreases-read_block-loop-at l = l.source.counts.nodes - l.at

@@ -34,7 +34,7 @@ returns-in-Some c =
 pub loop-index-preserved : goal.loop-index-preserved
 loop-index-preserved c =
     let r = routine_of c.args.routine.now.listing in
-    hunting_more r c.args.name (at_place c.args.point c.args.scalar) c.loop-index.hunt c.note_all.new.hunt c.loop-index.index
+    hunting_more r c.args.name (at_place c.args.point c.args.scalar) c.loop-index.hunt c.note_all.new.self c.loop-index.index
     c.loop-index.invariant c.loop-index-test.true c.in_default.ensures c.note_all.ensures.extends c.note_all.ensures.met
 
 pub returns : goal.returns

@@ -6,7 +6,7 @@ use Rattle.levels.specs.declared.secrecy.Secrecy.{Secrecy}
 use Rattle.levels.specs.declared.secrecy.Secrecy.TheVariants.{Public}
 use Rattle.levels.specs.Secrecy.{secrecy_order}
 use Rattle.listing.specs.declared.parts.Listing.{Listing}
-use Rattle.clearance.specs.declared.outcome.Outcome.{Outcome}
+use Rattle.clearance.specs.Outcomes.{Outcome}
 use Rattle.clearance.specs.Examinations.{RightOutcome}
 use Rattle.clearance.specs.Scenes.{Scene, scene, setting, Fitting}
 use Rattle.probe.specs.Probes.{public_scene}

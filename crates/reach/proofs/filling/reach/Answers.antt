@@ -17,4 +17,4 @@ loop-init c =
 pub returns : goal.returns
 returns c =
     let r = routine_of c.args.routine.now.listing in
-    exact r c.loop.work c.sweep.new.work (subst (Swept r c.loop.work c.sweep.new.work) c.loop-test.false c.sweep.ensures)
+    exact r c.loop.work c.sweep.new.self (subst (Swept r c.loop.work c.sweep.new.self) c.loop-test.false c.sweep.ensures)

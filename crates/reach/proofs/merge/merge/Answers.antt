@@ -1,4 +1,4 @@
-use Rattle.std.proofs.Common.{◌≡◌, ◌^◌, ◌<◌, length, arith, rules}
+use Rattle.std.proofs.Common.{◌≡◌, length, arith, rules}
 use Rattle.reach.proofs.Joining.{joining_none, joining_more, joining_all}
 use Rattle.reach.proofs.merge.merge.Goals as goal
 
@@ -8,10 +8,9 @@ loop-k-init c = joining_none c.args.into.now c.args.from.now
 pub loop-k-preserved : goal.loop-k-preserved
 loop-k-preserved c =
     let long : length c.args.into.now ≡ 24 = search rules in
-    let v = c.join-new.result.0 in
-    let fits : v.bits < 2 ^ 32 = search rules in
+    let v = c.join-grew.new.into in
     joining_more c.args.into.now c.args.from.now c.loop-k.into c.loop-k.grew c.loop-k.k v c.loop-k.invariant (omega (arith, long))
-    c.join-new.ensures.either c.join-new.result.1 c.join-new.ensures.same c.join-new.ensures.grows fits
+    c.join-grew.ensures.either c.join-grew.result c.join-grew.ensures.same c.join-grew.ensures.grows c.join-grew.ensures.fits
 
 pub returns : goal.returns
 returns c =

@@ -1,7 +1,7 @@
 use Rattle.std.proofs.Common.{◌≡◌, ℕ, ◌+◌, ◌-◌, ◌/◌, Bool, true, false, List, ◌++◌, string_bytes, decimal, sym, ap, ◌∙◌}
-use Rattle.texts.proofs.Adding.{onto_is, turned, ended}
+use Rattle.texts.proofs.Adding.{onto_is, turned}
 use Rattle.settings.specs.Names.{owner_numbers}
-use Rattle.settings.proofs.Numbering.{number_step, number_pass, numbers_all, all_is}
+use Rattle.settings.proofs.Numbering.{number_step, number_pass, all_is}
 use Rattle.settings.proofs.owner_names.owner_numbers.Goals as goal
 use Rattle.settings.proofs.owner_names.owner_numbers.Goals.{then-left-eq1+in_ok-number+in_ok-push_str, else-left-eq1}
 
@@ -34,7 +34,3 @@ loop-owner-preserved c =
           ∙ ap (λ (l : List ℕ). string_bytes c.loop-owner.out ++ l) (sym (number_pass f s k c.loop-owner-test.true w.if-left-eq1.false))
           ∙ c.loop-owner.invariant)
     ]
-
-pub returns : goal.returns
-returns c =
-    ended _ _ _ (numbers_all c.loop-owner.first c.loop-owner.left c.loop-owner.owner-counter c.loop-owner-test.false) c.loop-owner.invariant

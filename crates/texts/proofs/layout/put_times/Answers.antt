@@ -1,11 +1,6 @@
-use Rattle.std.proofs.Common.{◌++◌, string_bytes, ap}
-use native.Mathlib.Nat.{sub-zero}
-use Rattle.texts.specs.Layouts.{times}
-use Rattle.texts.proofs.Adding.{turned, ended, times_step, times_all}
+use Rattle.std.proofs.Common.{string_bytes}
+use Rattle.texts.proofs.Adding.{turned, times_step}
 use Rattle.texts.proofs.layout.put_times.Goals as goal
-
-pub loop-init : goal.loop-init
-loop-init c = ap (λ n. string_bytes c.args.out.now ++ times n c.args.text.now) (sub-zero c.args.count)
 
 pub loop-preserved : goal.loop-preserved
 loop-preserved c =
@@ -13,6 +8,3 @@ loop-preserved c =
     c.in_ok-push_str.ensures.bytes
     (times_step c.args.count c.loop.counter c.args.text.now c.loop-test.true)
     c.loop.invariant
-
-pub returns : goal.returns
-returns c = ended _ _ _ (times_all c.args.count c.loop.counter c.args.text.now c.loop-test.false) c.loop.invariant

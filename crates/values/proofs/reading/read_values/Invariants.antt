@@ -1,12 +1,10 @@
-use Rattle.std.proofs.Common.{◌≡◌, ◌+◌, ◌≤◌, length}
-use Rattle.values.specs.Words.{lines_of}
+use Rattle.std.proofs.Common.{◌≡◌, length, drop}
 use Rattle.values.specs.Values.{values_from, values_of}
+use Rattle.values.proofs.Lines.{pieces}
 use Rattle.values.proofs.reading.read_values.Given as goal
 
-abbrev pub invariant-loop-rest : goal.invariant-loop-rest
-invariant-loop-rest l =
-    (l.done + length l.rest ≤ length l.text)
-    × (values_from l.routine.listing l.done (lines_of l.rest) l.draft ≡ values_of l.routine.listing l.text)
-
-abbrev pub decreases-loop-rest : goal.decreases-loop-rest
-decreases-loop-rest l = length l.rest
+abbrev pub invariant-loop-above : goal.invariant-loop-above
+invariant-loop-above l =
+    (goal.iterator-loop-above).can_next l.above-iterator
+    × (goal.iterator-loop-above).is_finite l.above-iterator
+    × (values_from l.routine.listing (length l.yielded) (drop (length l.yielded) (pieces l.text)) l.draft ≡ values_of l.routine.listing l.text)

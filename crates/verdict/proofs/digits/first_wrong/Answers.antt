@@ -1,14 +1,14 @@
-use Rattle.std.proofs.Common.{sym, arith}
-use Rattle.verdict.proofs.Digit.{wrong_here, right_here, none_wrong}
+use Rattle.std.proofs.Common.{not, rules, tests, sym, ◌∙◌}
+use Rattle.std.proofs.lemmas.Iterator.{YieldsList-from_slice}
+use Rattle.std.proofs.lemmas.Iterator.Adapters.{position_from-zero}
+use Rattle.std.proofs.lemmas.Iterator.Search.{position_from_yields_List}
+use Rattle.verdict.specs.Digits.{is_digit}
+use Rattle.verdict.proofs.Digit.{wrong_from}
 use Rattle.verdict.proofs.digits.first_wrong.Goals as goal
 
-pub returns-then-not-is_digit : goal.returns-then-not-is_digit
-returns-then-not-is_digit c =
-    wrong_here c.args.digits.now c.loop-place.place c.loop-place.invariant (omega arith) (sym c.if-not-is_digit.ensures)
-
-pub loop-place-preserved : goal.loop-place-preserved
-loop-place-preserved c =
-    right_here c.args.digits.now c.loop-place.place c.loop-place.invariant (omega arith) (sym c.if-not-is_digit.ensures)
-
 pub returns : goal.returns
-returns c = none_wrong c.args.digits.now c.loop-place.place c.loop-place.invariant (omega arith)
+returns c =
+    let ds = c.args.digits.now in
+    position_from_yields_List (λ b. not (is_digit b)) _ _ c.position.result c.position.ensures.ran (YieldsList-from_slice ds cc) (λ x b q k. search (rules, tests))
+    ∙ position_from-zero (λ b. not (is_digit b)) ds
+    ∙ sym (wrong_from 0 ds)

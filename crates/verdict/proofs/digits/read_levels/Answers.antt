@@ -1,13 +1,12 @@
-use Rattle.std.proofs.Common.{set, ap, ◌∙◌, arith}
+use Rattle.std.proofs.Common.{map, sym, ◌∙◌, arith}
+use Rattle.std.proofs.lemmas.List.{ext_get_or, get_or-map, length-map}
+use Rattle.levels.specs.declared.secrecy.Secrecy.TheVariants.{Public}
 use Rattle.verdict.specs.Digits.{level_of}
-use Rattle.verdict.proofs.Digit.{filled_more, filled_all}
 use Rattle.verdict.proofs.digits.read_levels.Goals as goal
-
-pub loop-place-preserved : goal.loop-place-preserved
-loop-place-preserved c =
-    ap (λ v. set c.loop-place.table c.loop-place.place v) c.level_of.ensures
-    ∙ filled_more level_of c.args.digits.now c.args.table.now c.loop-place.table c.loop-place.place c.requires (omega arith) c.loop-place.invariant
 
 pub returns : goal.returns
 returns c =
-    filled_all level_of c.args.digits.now c.args.table.now c.loop-place.table c.loop-place.place c.requires (omega arith) c.loop-place.invariant
+    let ds = c.args.digits.now in
+    let t = c.loop-place.table in
+    ext_get_or Public t (map level_of ds) (omega (arith, length-map ds level_of))
+    (λ k h. c.loop-place.invariant k (omega arith) ∙ sym (get_or-map level_of ds k 0 Public (omega arith)))

@@ -1,29 +1,29 @@
-use Rattle.std.proofs.Common.{◌+◌, length, arith}
+use Rattle.std.proofs.Common.{◌+◌, [], length, take}
 use Rattle.verdict.proofs.Parts.{cut, parted_at, unparted}
 use Rattle.verdict.proofs.input.slip_on.Goals as goal
 
-pub returns-then-end-input : goal.returns-then-end-input
-returns-then-end-input c =
+pub returns-in-Some : goal.returns-in-Some
+returns-in-Some c =
     let s = c.args.input.now in
-    let e = c.newline_at-end.result in
+    let e = c.in-Some.end in
+    let h = c.in-Some.ensures {u = tt} in
     record {
-      digits = cut 0 e s;
+      digits = take e s;
       listing = cut (e + 1) (length s) s;
-      parted = parted_at s e c.if-end-input.true c.newline_at-end.ensures.before (c.newline_at-end.ensures.found c.if-end-input.true);
+      parted = parted_at s e h.0 h.1 h.2;
       slip = c.judge.result;
       judged = c.judge.ensures;
       text_is = c.slip_text.ensures;
     }
 
-pub returns-else-end-input : goal.returns-else-end-input
-returns-else-end-input c =
+pub returns-in-None : goal.returns-in-None
+returns-in-None c =
     let s = c.args.input.now in
-    let e = c.newline_at-end.result in
     record {
       digits = s;
-      listing = cut e (length s) s;
-      parted = unparted s e (omega arith) c.newline_at-end.ensures.before;
-      slip = c.judge-else-end-input.result;
-      judged = c.judge-else-end-input.ensures;
-      text_is = c.slip_text-else-end-input.ensures;
+      listing = [];
+      parted = unparted s (c.in-None.ensures {u = tt});
+      slip = c.judge-in-None.result;
+      judged = c.judge-in-None.ensures;
+      text_is = c.slip_text-in-None.ensures;
     }

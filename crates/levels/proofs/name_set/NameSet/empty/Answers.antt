@@ -1,6 +1,6 @@
-use Rattle.std.proofs.Common.{refl, arith}
+use Rattle.std.proofs.Common.{arith}
 use Rattle.levels.proofs.Bits.{bit_zero}
 use Rattle.levels.proofs.name_set.NameSet.empty.Goals as goal
 
-pub returns : goal.returns
-returns c = record { is = refl; holds = λ k h. omega (arith, bit_zero k) }
+pub returns-clause-holds : goal.returns-clause-holds
+returns-clause-holds c = λ k h. omega (arith, bit_zero k)

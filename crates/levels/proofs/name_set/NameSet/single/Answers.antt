@@ -9,6 +9,3 @@ returns-then-name-lt32 c =
     λ k.
     rw (one_shl c.args.name 32 below)
     (λ h. let e = bit_pow c.args.name k h in (omega arith, e), λ h. rw h.1 (bit_pow_same c.args.name))
-
-pub returns-else-name-lt32 : goal.returns-else-name-lt32
-returns-else-name-lt32 c = λ k. (λ h. absurd (c.empty.ensures.holds k h), λ h. absurd (omega (arith, h.0, h.1, c.if-name-lt32.false)))

@@ -1,9 +1,11 @@
-use Rattle.std.proofs.Common.{◌≤◌, ◌⊎◌, length, ap, ◌∙◌, inl, arith}
+use Rattle.std.proofs.Common.{◌≡◌, ◌≤◌, ◌⊎◌, length, set, sym, ap, ◌∙◌, subst, inl, arith}
+use Rattle.std.proofs.lemmas.List.{set-get_or}
 use Rattle.rules.specs.Routine.{end}
-use Rattle.run.specs.Runs.{terms_of, terms_in}
+use Rattle.rules.proofs.Loops.{Written}
+use Rattle.run.specs.Views.{of_line}
+use Rattle.run.specs.Runs.{terms_of, terms_in, state_of}
 use Rattle.run.proofs.Turns.{turn, halts, all_stands, all_answered, all_rest}
 use Rattle.run.proofs.run.Run.advance.Goals as goal
-use Rattle.run.proofs.run.Run.advance.Goals.{then-loop-count-test+else-not-at_end, else-loop-count-test}
 
 pub loop-count-preserved : goal.loop-count-preserved
 loop-count-preserved g c =
@@ -12,8 +14,27 @@ loop-count-preserved g c =
     let y = terms_in g.M.LeakageModel.leakage c.loop-count.self in
     let same = ap (terms_of g.M.LeakageModel.leakage) inv.0 in (
       c.step.ensures.exam ∙ inv.0,
-      turn x _ _ _ _ _ inv.1 y _ _ _ same c.step.ensures.line c.step.ensures.state (omega arith) c.at_end.ensures.going c.if-not-at_end.true,
+      turn x _ _ _ _ _ inv.1 y _ _ _ same (ap (set c.loop-count.lines c.loop-count.count) c.step.ensures.line) c.step.ensures.state (omega arith) c.at_end.ensures.going c.if-at_end.false,
     )
+
+pub returns-then-at_end : goal.returns-then-at_end
+returns-then-at_end g c =
+    let inv = c.loop-count.invariant in
+    let x = terms_in g.M.LeakageModel.leakage c.args.self.now in
+    let y = terms_in g.M.LeakageModel.leakage c.loop-count.self in
+    let same = ap (terms_of g.M.LeakageModel.leakage) inv.0 in
+    let s₀ = state_of c.args.self.now in
+    let s = state_of c.loop-count.self in
+    let i = c.loop-count.count in
+    -- the line of the turn that was not made is as it was
+    let w = subst (λ zs. Written of_line x.model x.routine s₀ c.args.lines.now s zs i) (sym (set-get_or c.loop-count.lines i (record { node = 0; mark = 0 }))) inv.1 in
+    let over = halts x _ _ _ _ _ inv.1 y _ same c.at_end.ensures.going c.if-at_end.true in
+    record {
+      answer = all_answered x _ _ _ _ _ w over y _ same c.report.ensures.count c.report.ensures.ended;
+      rest = all_rest x _ _ _ _ _ w over _ c.report.ensures.count;
+      state = all_stands x _ _ _ _ _ w over;
+      exam = inv.0;
+    }
 
 pub returns : goal.returns
 returns g c =
@@ -21,14 +42,11 @@ returns g c =
     let x = terms_in g.M.LeakageModel.leakage c.args.self.now in
     let y = terms_in g.M.LeakageModel.leakage c.loop-count.self in
     let same = ap (terms_of g.M.LeakageModel.leakage) inv.0 in
-    let over : (length c.args.lines.now ≤ c.loop-count.count) ⊎ (end x.routine ≤ c.loop-count.self.point) =
-    elim c.loop-count-test.branch [
-      | then-loop-count-test+else-not-at_end w ↦ halts x _ _ _ _ _ inv.1 y _ same w.at_end.ensures.going w.if-not-at_end.false
-      | else-loop-count-test w ↦ inl (omega (arith, w.loop-count-test.false))
-    ] in
+    let over : (length c.args.lines.now ≤ c.loop-count.count) ⊎ (end x.routine ≤ c.loop-count.self.point) = inl (omega arith) in
+    let all : c.report-2.result.count ≡ c.loop-count.count = omega (arith, c.report-2.ensures.count) in
     record {
-      answer = all_answered x _ _ _ _ _ inv.1 over y _ same c.report.ensures.count c.report.ensures.ended;
-      rest = all_rest x _ _ _ _ _ inv.1 over _ c.report.ensures.count;
+      answer = all_answered x _ _ _ _ _ inv.1 over y _ same all c.report-2.ensures.ended;
+      rest = all_rest x _ _ _ _ _ inv.1 over _ all;
       state = all_stands x _ _ _ _ _ inv.1 over;
       exam = inv.0;
     }

@@ -1,4 +1,0 @@
-use Rattle.findings.proofs.finding.table_text.Goals as goal
-
-pub returns : goal.returns
-returns c = c.format.ensures.ok

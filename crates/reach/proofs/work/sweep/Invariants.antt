@@ -1,6 +1,0 @@
-use Rattle.listing.specs.Forms.{routine_of}
-use Rattle.reach.specs.Work.{Sweeping}
-use Rattle.reach.proofs.work.sweep.Given as goal
-
-abbrev pub invariant-loop-point : goal.invariant-loop-point
-invariant-loop-point l = Sweeping (routine_of l.routine.listing) l.initial.work l.work l.point l.again
