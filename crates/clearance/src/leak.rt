@@ -1,9 +1,11 @@
 //! A leak, and the search for it at one operand.
 
 ghost use Rattle.std.specs.Prelude.{◌≡◌};
+ghost use Rattle.std.specs.Option.{option_or};
 ghost use Rattle.clearance.specs.Bounds.{bound_number};
 ghost use Rattle.clearance.specs.Stops.{OperandAnswer};
 
+use crate::unnamed::UnnamedBound;
 use levels::NameSet;
 
 /// What an operand is held to.
@@ -13,6 +15,8 @@ pub enum Bound {
     Listener,
     /// The level of the array that is written.
     Array,
+    /// Neither, by its number. No leak that is found has it, since its number is 0 or 1.
+    Unnamed(UnnamedBound),
 }
 
 impl From<Bound> for u32 {
@@ -22,6 +26,20 @@ impl From<Bound> for u32 {
         match bound {
             Bound::Listener => 0,
             Bound::Array => 1,
+            Bound::Unnamed(bound) => bound.number,
+        }
+    }
+}
+
+/// The bound that has the number.
+impl From<u32> for Bound {
+    ghost from_gives = { λ number bound. bound_number bound ≡ number };
+
+    fn from(number: u32) -> Bound {
+        match number {
+            0 => Bound::Listener,
+            1 => Bound::Array,
+            _ => Bound::Unnamed(UnnamedBound { number }),
         }
     }
 }
@@ -47,11 +65,21 @@ pub(crate) fn operand_leak(
 ) -> Option<LeakSite>
     ensures { OperandAnswer names flow held point operand bound result }
 {
-    let name = names.difference(flow).lowest().filter(|_| held);
-    name.map(|name| LeakSite {
+    if !held {
+        return None;
+    }
+    let name = names.difference(flow).lowest()?;
+    Some(LeakSite {
         node: point,
         operand,
         bound,
         name,
     })
+}
+
+// Of two leaks the first that there is.
+pub(crate) fn first_of(first: Option<LeakSite>, second: Option<LeakSite>) -> Option<LeakSite>
+    ensures { result ≡ option_or first second }
+{
+    first.or(second)
 }

@@ -9,6 +9,7 @@ mod least;
 mod outcome;
 mod record;
 mod search;
+mod unnamed;
 
 pub use clearing::clear;
 pub use examining::examine;
@@ -17,3 +18,4 @@ pub use leak::{Bound, LeakSite};
 pub use least::level_at;
 pub use outcome::ClearFault;
 pub use record::Examination;
+pub use unnamed::UnnamedBound;

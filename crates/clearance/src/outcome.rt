@@ -33,3 +33,12 @@ impl From<ClearFault> for Refusal {
         }
     }
 }
+
+impl ClearFault {
+    /// The rule that is broken.
+    pub fn refusal(&self) -> Refusal
+        ensures { result ≡ refusal_of self.now }
+    {
+        Refusal::from(*self)
+    }
+}

@@ -9,7 +9,7 @@ ghost use Rattle.clearance.specs.Scenes.{setting};
 ghost use Rattle.clearance.specs.Searches.{searched, Prepared};
 ghost use Rattle.clearance.specs.Stops.{OperandAnswer, NodeAnswer, LeakAnswer};
 
-use crate::leak::{Bound, LeakSite, operand_leak};
+use crate::leak::{Bound, LeakSite, first_of, operand_leak};
 use leakage::LeakageModel;
 use levels::{Level, NameSet, flowing};
 use listing::Routine;
@@ -65,7 +65,7 @@ impl<'a, L: Level, M: LeakageModel> Search<'a, L, M> {
         let first = self.heard_leak(watched, point, 2, index);
         let second = self.stored_leak(stored, point, 2, index);
         let third = self.stored_leak(stored, point, 3, value);
-        first.or(second.or(third))
+        first_of(first, first_of(second, third))
     }
 
     // The leak at one node: the lowest operand, then bound, then start name.
@@ -88,7 +88,7 @@ impl<'a, L: Level, M: LeakageModel> Search<'a, L, M> {
                 let right_watched = self.model.watches_operand(operator, Side::Right);
                 let first = self.heard_leak(left_watched, point, 3, left);
                 let second = self.heard_leak(right_watched, point, 4, right);
-                first.or(second)
+                first_of(first, second)
             }
             Node::Read { array, index, .. } => {
                 let watched = self

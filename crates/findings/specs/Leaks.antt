@@ -9,7 +9,7 @@ use Rattle.lines.specs.Lines.{part}
 use Rattle.listing.specs.declared.parts.Listing.{Listing}
 use Rattle.listing.specs.Forms.{routine_of}
 use Rattle.clearance.specs.declared.leak.Bound.{Bound}
-use Rattle.clearance.specs.declared.leak.Bound.TheVariants.{Listener, Array}
+use Rattle.clearance.specs.declared.leak.Bound.TheVariants.{Listener, Array, Unnamed}
 use Rattle.clearance.specs.declared.leak.LeakSite.{LeakSite}
 use Rattle.path.specs.declared.place.Path.{Path}
 use Rattle.texts.specs.Refusals.{line_shown}
@@ -37,6 +37,7 @@ array_written (EndWhile h) = None
 abbrev pub bound_array : Bound → Node → Option ℕ
 bound_array Listener n = None
 bound_array Array n = array_written n
+bound_array (Unnamed b) n = array_written n
 
 -- the line of the node, with the operand marked, where there are a arrays
 abbrev pub place_text : List ℕ → ℕ → LeakSite → List ℕ

@@ -31,7 +31,7 @@ fn bound_array(bound: Bound, node: Node) -> Option<u32>
     ensures { result ≡ bound_array bound node }
 {
     match (bound, node) {
-        (Bound::Array, Node::Write { array, .. }) => Some(array),
+        (Bound::Array | Bound::Unnamed(_), Node::Write { array, .. }) => Some(array),
         _ => None,
     }
 }

@@ -1,9 +1,16 @@
 -- The open names, filled in point by point.
-use Rattle.std.proofs.Common.{ℕ, ◌+◌, ◌<◌, ◌↔◌, List, length, get_or, set, inl, inr, arith}
+use Rattle.std.proofs.Common.{ℕ, ◌+◌, ◌<◌, ◌⊎◌, ◌↔◌, List, length, get_or, set, inl, inr, arith}
 use Rattle.std.proofs.lemmas.List.{get_or-set_same, get_or-set_other}
 use Rattle.std.proofs.lemmas.Bool.{cases_eq}
 use Rattle.levels.specs.declared.name_set.NameSet.{NameSet}
 use Rattle.levels.specs.Names.{Has, no_names}
+
+-- the union of two sets, each of them told
+pub either_told : {A B V : Type 0} {P Q : Type 0} → (V ↔ (A ⊎ B)) → (A ↔ P) → (B ↔ Q) → (V ↔ (P ⊎ Q))
+either_told u a b = (
+  λ h. elim (u.0 h) [ inl x ↦ inl (a.0 x) | inr y ↦ inr (b.0 y) ],
+  λ h. u.1 (elim h [ inl x ↦ inl (a.1 x) | inr y ↦ inr (b.1 y) ]),
+)
 
 -- the sets below i are told by X, and so is v at i
 pub told_more :

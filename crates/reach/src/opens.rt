@@ -1,9 +1,9 @@
 //! The names that are open at each point.
 
-ghost use Rattle.std.specs.Prelude.{◌≡◌, ℕ, ◌+◌, ◌<◌, ◌≤◌, true, ◌↔◌, length};
+ghost use Rattle.std.specs.Prelude.{◌≡◌, ℕ, ◌+◌, ◌<◌, ◌≤◌, ◌↔◌, length};
 ghost use Rattle.levels.specs.Names.{Has, has};
 ghost use Rattle.reach.specs.Table.{at};
-ghost use Rattle.reach.specs.Opens.{open_at, NoneOpen, OpenBy, OpensBy};
+ghost use Rattle.reach.specs.Opens.{open_at, NoneOpen, OpensBy};
 
 use crate::reading::counts_of;
 use crate::table::{ReachTable, Row};
@@ -37,27 +37,28 @@ impl OpenNames {
     }
 }
 
-// Whether the name is open, by the row of a point.
-fn is_open(routine: &Routine, row: &Row, heard: NameSet, name: usize) -> bool
-    requires { name < routine.now.listing.counts.scalars + routine.now.listing.counts.arrays }
-    ensures { (result ≡ true) ↔ OpenBy routine.now.listing (λ m k. Has (at row.now k) m) heard name }
-{
-    if name < counts_of(routine).scalars as usize {
-        row.names(name).is_subset(heard)
-    } else {
-        heard.contains(name)
-    }
-}
-
-// The names that are open, by the row of a point.
-fn open_by(routine: &Routine, row: &Row, heard: NameSet) -> NameSet
-    ensures { (x : ℕ) → (Has result x ↔ OpenBy routine.now.listing (λ m k. Has (at row.now k) m) heard x) }
+// The scalars that only heard names reach, by the row of a point.
+fn open_scalars(routine: &Routine, row: &Row, heard: NameSet) -> NameSet
+    ensures { (x : ℕ) → (Has result x ↔ ((x < routine.now.listing.counts.scalars) × ((name : ℕ) → Has (at row.now x) name → Has heard name))) }
 {
     let counts = counts_of(routine);
     let mut opens = NameSet::empty();
-    // A name is a number, that of its scalar or array; no slice is gone over.
-    for name in 0..(counts.scalars + counts.arrays) as usize {
-        if is_open(routine, row, heard, name) {
+    for scalar in 0..counts.scalars as usize {
+        if row.sets[scalar].is_subset(heard) {
+            opens = opens.union(NameSet::single(scalar));
+        }
+    }
+    opens
+}
+
+// The arrays that are heard.
+fn open_arrays(routine: &Routine, heard: NameSet) -> NameSet
+    ensures { (x : ℕ) → (Has result x ↔ ((routine.now.listing.counts.scalars ≤ x) × (x < routine.now.listing.counts.scalars + routine.now.listing.counts.arrays) × Has heard x)) }
+{
+    let counts = counts_of(routine);
+    let mut opens = NameSet::empty();
+    for name in counts.scalars as usize..(counts.scalars + counts.arrays) as usize {
+        if heard.contains(name) {
             opens = opens.union(NameSet::single(name));
         }
     }
@@ -70,10 +71,12 @@ pub fn open_names(routine: &Routine, table: &ReachTable, heard: NameSet) -> Open
 {
     let counts = counts_of(routine);
     let rows = &table.rows[..counts.nodes as usize + 1];
+    // The same at each point, so they are looked for once.
+    let arrays = open_arrays(routine, heard);
     let mut opens = OpenNames::none();
     // Written by index: nothing is known of sets that are written through a zip.
     for (point, row) in rows.iter().enumerate() {
-        opens.at[point] = open_by(routine, row, heard);
+        opens.at[point] = open_scalars(routine, row, heard).union(arrays);
     }
     opens
 }

@@ -32,3 +32,13 @@ impl From<RunFault> for Refusal {
         }
     }
 }
+
+impl RunFault {
+    /// The rule that is broken. Its number is the one that the rules of a run give.
+    pub fn refusal(&self) -> Refusal
+        ensures is { result ≡ refusal_of self.now }
+        ensures number { rule_number result.rule ≡ (of_fault self.now).number }
+    {
+        Refusal::from(*self)
+    }
+}

@@ -106,6 +106,15 @@ impl FromStr for Layered {
     ghost from_str_gives = { λ word r. MatchResult r (λ model. model_named word ≡ Some model) (λ _. model_named word ≡ None) };
 
     fn from_str(word: &str) -> Result<Layered, UnknownModel> {
+        Layered::named(word).ok_or(UnknownModel)
+    }
+}
+
+impl Layered {
+    /// The model that the word names.
+    pub fn named(word: &str) -> Option<Layered>
+        ensures { result ≡ model_named word.now }
+    {
         let (base, timed) = match word {
             "pc" => (Base::Counter, false),
             "baseline" => (Base::Cells, false),
@@ -115,13 +124,11 @@ impl FromStr for Layered {
             "tv+baseline" => (Base::Cells, true),
             "tv+line16" => (Base::Lines(CacheLine::Sixteen), true),
             "tv+line8" => (Base::Lines(CacheLine::Eight), true),
-            _ => return Err(UnknownModel),
+            _ => return None,
         };
-        Ok(Layered { base, timed })
+        Some(Layered { base, timed })
     }
-}
 
-impl Layered {
     /// What the standing model hears.
     pub fn base_words(self) -> &'static str
         ensures { result.now ≡ base_words self.base }

@@ -55,6 +55,7 @@ by_rule rule.Scalar f = Other
 by_rule rule.Open f = Other
 by_rule rule.Room f = Other
 by_rule rule.Digit f = Other
+by_rule (rule.Unnamed n) f = Other
 
 abbrev pub reason_of : Refusal → Reason
 reason_of r = by_rule r.rule r.field

@@ -128,6 +128,13 @@ impl From<Refusal> for Reason {
 }
 
 impl Reason {
+    /// The reason for a refusal, by the rule that is broken and the field.
+    pub fn of(refusal: Refusal) -> Reason
+        ensures { result ≡ reason_of refusal }
+    {
+        Reason::from(refusal)
+    }
+
     /// The reason as a sentence.
     pub fn sentence(self) -> &'static str
         ensures { result.now ≡ reason_sentence self }

@@ -109,12 +109,12 @@ pub fn both<'a, L: Level, M: LeakageModel>(
         lines,
     };
     let Script {
-        calls,
+        calls: others,
         answers,
         lines,
     } = two;
     let two = Script {
-        calls,
+        calls: others,
         answers,
         lines,
     };

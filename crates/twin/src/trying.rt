@@ -48,7 +48,10 @@ pub fn trial<L: Level, M: LeakageModel>(
         lines,
     };
     let exam = examine(routine, model, levels, listener);
-    let Two { first, second } = both(&exam, levels, listener, memories, one, two)?;
+    let Two { first, second } = match both(&exam, levels, listener, memories, one, two) {
+        Ok(pair) => pair,
+        Err(declined) => return Err(declined),
+    };
     Ok(Two {
         first: first.close(),
         second: second.close(),

@@ -1,6 +1,6 @@
 //! The values that are given so far, to each place once.
 
-ghost use Rattle.std.specs.Prelude.{◌≡◌, ◌<◌, length};
+ghost use Rattle.std.specs.Prelude.{◌≡◌, ◌<◌, length, map, unwrap_or};
 ghost use Rattle.values.specs.Values.{empty_draft, put_once, put, put_line, outcome, memory_of};
 
 use crate::entry::{Entry, entry_of};
@@ -27,6 +27,17 @@ fn put_once(places: &mut [Option<u32>], place: usize, value: u32) -> Result<(), 
     }
     places[place] = Some(value);
     Ok(())
+}
+
+// Puts the value of each place into the row, and 0 where none is given.
+fn put_all(places: &[Option<u32>], row: &mut [u32])
+    requires { length row.old ≡ length places.now }
+    ensures { row.new ≡ map (λ v. unwrap_or v 0) places.now }
+{
+    // By place: of values that are written through a zip nothing is known, and the array's own `map` takes ten times as long.
+    for (place, value) in places.iter().enumerate() {
+        row[place] = value.unwrap_or(0);
+    }
 }
 
 impl Draft {
@@ -82,9 +93,12 @@ impl Draft {
     pub(crate) fn memory(&self) -> Memory
         ensures { result ≡ memory_of self.now }
     {
-        Memory {
-            scalars: self.scalars.map(|value| value.unwrap_or(0)),
-            cells: self.cells.map(|value| value.unwrap_or(0)),
-        }
+        let mut memory = Memory {
+            scalars: [0; 24],
+            cells: [0; 512],
+        };
+        put_all(&self.scalars, &mut memory.scalars);
+        put_all(&self.cells, &mut memory.cells);
+        memory
     }
 }

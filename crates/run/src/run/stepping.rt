@@ -50,6 +50,22 @@ impl<M: LeakageModel> Run<'_, M> {
         }
     }
 
+    // One step for each place, until the places or the routine end; how many.
+    fn fill(&mut self, lines: &mut [LeakLine]) -> usize
+        ensures answer { advanced (record { count = result; at_end = self.new.point == end (routine_of self.new.exam.now.routine.listing) }) lines.new ≡ answer_to M.leakage self.old (Advance (length lines.old)) }
+        ensures rest { drop result lines.new ≡ drop result lines.old }
+        ensures state { state_of self.new ≡ state_past self.old (Advance (length lines.old)) }
+        ensures exam { self.new.exam.now ≡ self.old.exam.now }
+    {
+        for (count, line) in lines.iter_mut().enumerate() {
+            if self.at_end() {
+                return count;
+            }
+            *line = self.step();
+        }
+        lines.len()
+    }
+
     /// One step for each place of `lines`, until the places or the routine end. Places past the count are left as they were.
     pub fn advance(&mut self, lines: &mut [LeakLine]) -> Advanced
         ensures answer { advanced result lines.new ≡ answer_to M.leakage self.old (Advance (length lines.old)) }
@@ -57,12 +73,7 @@ impl<M: LeakageModel> Run<'_, M> {
         ensures state { state_of self.new ≡ state_past self.old (Advance (length lines.old)) }
         ensures exam { self.new.exam.now ≡ self.old.exam.now }
     {
-        for (count, line) in lines.iter_mut().enumerate() {
-            if self.at_end() {
-                return self.report(count);
-            }
-            *line = self.step();
-        }
-        self.report(lines.len())
+        let count = self.fill(lines);
+        self.report(count)
     }
 }

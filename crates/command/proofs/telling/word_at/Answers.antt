@@ -1,4 +1,4 @@
-use Rattle.std.proofs.Common.{◌≡◌, ℕ, zero, suc, ◌<◌, ◌≤◌, List, [], ◌∷◌, length, get_or, string_bytes, String, refl, ap, ◌∙◌, arith}
+use Rattle.std.proofs.Common.{◌≡◌, ℕ, zero, suc, ◌<◌, ◌≤◌, List, [], ◌∷◌, length, get_or, string_bytes, String, refl, ap, ◌∙◌, arith, rules}
 use Rattle.command.specs.Texts.{word_in}
 use Rattle.command.proofs.telling.word_at.Goals as goal
 
@@ -17,7 +17,7 @@ beyond (x ∷ ws) (suc p) h = beyond ws p (omega arith)
 pub returns-in-Some : goal.returns-in-Some
 returns-in-Some c =
     let found = c.in-Some.ensures.lookup in
-    c.as_str.ensures.value ∙ ap string_bytes found.1 ∙ within c.args.words.now c.args.place c.in-Some.word.now found.3.0
+    let told = ap string_bytes found.1 ∙ within c.args.words.now c.args.place c.in-Some.word.now found.3.0 in search rules
 
 pub returns-in-None : goal.returns-in-None
 returns-in-None c = beyond c.args.words.now c.args.place (c.in-None.ensures.lookup).3

@@ -9,6 +9,8 @@ use Rattle.verdict.proofs.digits.first_wrong.Goals as goal
 pub returns : goal.returns
 returns c =
     let ds = c.args.digits.now in
+    let found =
     position_from_yields_List (λ b. not (is_digit b)) _ _ c.position.result c.position.ensures.ran (YieldsList-from_slice ds cc) (λ x b q k. search (rules, tests))
     ∙ position_from-zero (λ b. not (is_digit b)) ds
-    ∙ sym (wrong_from 0 ds)
+    ∙ sym (wrong_from 0 ds) in
+    search rules

@@ -38,7 +38,7 @@ returns-in-Operate g c =
     let b = c.heard_leak-second.result in
     let left = c.watches_operand-left_watched.result in
     let right = c.watches_operand-right_watched.result in
-    rw c.or.ensures
+    rw c.first_of.ensures
     (subst (λ n. NodeAnswer C c.args.point n (option_or a b)) (sym c.in-Operate.is ∙ c.node_at.ensures.is)
     (operate_answer C c.args.point c.in-Operate.target x y c.in-Operate.operator left right a b c.watches_operand-left_watched.ensures c.watches_operand-right_watched.ensures
     (heard_held o w s c.requires.prepared c.args.point n 3 x left a refl c.heard_leak-first.ensures)

@@ -27,7 +27,7 @@ returns g c =
     let first = c.heard_leak-first.result in
     let second = c.stored_leak-second.result in
     let third = c.stored_leak-third.result in
-    rw (c.or-2.ensures ∙ ap (option_or first) c.or.ensures)
+    rw (c.first_of-2.ensures ∙ ap (option_or first) c.first_of.ensures)
     (write_answer (setting (searched o w s)) p c.args.array c.args.index c.args.value c.watches_index-watched.result first second third watched
     (heard_held o w s c.requires.prepared p n 2 c.args.index c.watches_index-watched.result first refl c.heard_leak-first.ensures)
     (stored_held o w s c.requires.prepared p n 2 c.args.index y c.flowing-stored.result second level c.flowing-stored.ensures c.stored_leak-second.ensures)

@@ -1,11 +1,11 @@
-use Rattle.std.proofs.Common.{◌≡◌, ◌≤◌, ◌⊎◌, length, set, sym, ap, ◌∙◌, subst, inl, arith}
+use Rattle.std.proofs.Common.{◌≡◌, ◌≤◌, ◌⊎◌, length, set, sym, refl, ap, ◌∙◌, subst, inl, arith}
 use Rattle.std.proofs.lemmas.List.{set-get_or}
 use Rattle.rules.specs.Routine.{end}
 use Rattle.rules.proofs.Loops.{Written}
 use Rattle.run.specs.Views.{of_line}
 use Rattle.run.specs.Runs.{terms_of, terms_in, state_of}
 use Rattle.run.proofs.Turns.{turn, halts, all_stands, all_answered, all_rest}
-use Rattle.run.proofs.run.Run.advance.Goals as goal
+use Rattle.run.proofs.run.Run.fill.Goals as goal
 
 pub loop-count-preserved : goal.loop-count-preserved
 loop-count-preserved g c =
@@ -30,8 +30,8 @@ returns-then-at_end g c =
     let w = subst (λ zs. Written of_line x.model x.routine s₀ c.args.lines.now s zs i) (sym (set-get_or c.loop-count.lines i (record { node = 0; mark = 0 }))) inv.1 in
     let over = halts x _ _ _ _ _ inv.1 y _ same c.at_end.ensures.going c.if-at_end.true in
     record {
-      answer = all_answered x _ _ _ _ _ w over y _ same c.report.ensures.count c.report.ensures.ended;
-      rest = all_rest x _ _ _ _ _ w over _ c.report.ensures.count;
+      answer = all_answered x _ _ _ _ _ w over y _ same refl refl;
+      rest = all_rest x _ _ _ _ _ w over _ refl;
       state = all_stands x _ _ _ _ _ w over;
       exam = inv.0;
     }
@@ -43,9 +43,9 @@ returns g c =
     let y = terms_in g.M.LeakageModel.leakage c.loop-count.self in
     let same = ap (terms_of g.M.LeakageModel.leakage) inv.0 in
     let over : (length c.args.lines.now ≤ c.loop-count.count) ⊎ (end x.routine ≤ c.loop-count.self.point) = inl (omega arith) in
-    let all : c.report-2.result.count ≡ c.loop-count.count = omega (arith, c.report-2.ensures.count) in
+    let all : length c.loop-count.lines ≡ c.loop-count.count = omega arith in
     record {
-      answer = all_answered x _ _ _ _ _ inv.1 over y _ same all c.report-2.ensures.ended;
+      answer = all_answered x _ _ _ _ _ inv.1 over y _ same all refl;
       rest = all_rest x _ _ _ _ _ inv.1 over _ all;
       state = all_stands x _ _ _ _ _ inv.1 over;
       exam = inv.0;

@@ -2,7 +2,7 @@ use Rattle.std.proofs.Common.{◌≡◌}
 use Rattle.rules.proofs.Loops.{Written}
 use Rattle.run.specs.Views.{of_line}
 use Rattle.run.specs.Runs.{terms_in, state_of}
-use Rattle.run.proofs.run.Run.advance.Given as goal
+use Rattle.run.proofs.run.Run.fill.Given as goal
 
 abbrev pub invariant-loop-count : goal.invariant-loop-count
 invariant-loop-count g l =
