@@ -34,7 +34,7 @@ fn put_all(places: &[Option<u32>], row: &mut [u32])
     requires { length row.old ≡ length places.now }
     ensures { row.new ≡ map (λ v. unwrap_or v 0) places.now }
 {
-    // By place: of values that are written through a zip nothing is known, and the array's own `map` takes ten times as long.
+    // By place: of values that are written through a zip nothing is known, and with the array's own `map` a call costs over three times as much.
     for (place, value) in places.iter().enumerate() {
         row[place] = value.unwrap_or(0);
     }
